@@ -1,9 +1,10 @@
 -- Desks of which the same is observed do the same at each command, unless one of them tells that its history has no room.
 use Rattle.std.proofs.Common.{◌≡◌, ◌⊎◌, inl, inr, ℕ, zero, suc, ◌+◌, ◌-◌, ◌≤◌, Bool, true, false, cond, not, List, [], ◌∷◌, ◌++◌, map, length, Option, Some, None, Result, Ok, Err, refl, sym, ap, ap₂, ◌∙◌, subst, arith}
-use Rattle.std.specs.Prelude.{nat_lt, nat_le, codes, is_some, take, option_map}
+use Rattle.std.specs.Prelude.{nat_lt, nat_le, codes, is_some, take, option_map, IsTrue}
 use Rattle.std.proofs.lemmas.Bool.Decides.{nat_tests}
 use Rattle.stm_terms.specs.declared.values.Value.{Value}
 use Rattle.stm_terms.specs.declared.verdicts.Verdict.{Verdict}
+use Rattle.stm_terms.specs.Names.{is_name_text}
 use Rattle.stm_terms.specs.Changes.{cell_value}
 use Rattle.stm_terms.specs.ReadSet.{reads_of}
 use Rattle.stm_terms.specs.Verdict.{verdict}
@@ -11,6 +12,8 @@ use Rattle.stm_check.specs.TypedBlock.{Block}
 use Rattle.stm_eval.specs.Laws.{VerdictIsStable}
 use Rattle.stm_store.specs.declared.cell.Cell.{Cell}
 use Rattle.stm_store.specs.Cells.{plains, changed_by}
+use Rattle.stm_store.specs.Naming.{may_hold_known, number_named}
+use Rattle.stm_store.specs.Tables.{Declared}
 use Rattle.stm_queue.specs.Queue.{Entry, is_out, marked, queued}
 use Rattle.stm_events.specs.declared.errors.CancelError.{CancelError}
 use Rattle.stm_events.specs.declared.errors.CancelError.TheVariants as cancel
@@ -18,10 +21,12 @@ use Rattle.stm_events.specs.declared.errors.DeliverError.{DeliverError}
 use Rattle.stm_events.specs.declared.errors.DeliverError.TheVariants as deliver
 use Rattle.stm_events.specs.declared.errors.FinishError.{FinishError}
 use Rattle.stm_events.specs.declared.errors.FinishError.TheVariants as finish
+use Rattle.stm_events.specs.declared.errors.LateDeclareError.{LateDeclareError}
+use Rattle.stm_events.specs.declared.errors.LateDeclareError.TheVariants as late
 use Rattle.stm_events.specs.declared.errors.SubmitError.{SubmitError}
 use Rattle.stm_events.specs.declared.errors.SubmitError.TheVariants as submit
 use Rattle.stm_events.specs.declared.event.What.{What}
-use Rattle.stm_events.specs.declared.event.What.TheVariants.{Submitted, Installed, Finished, Cancelled}
+use Rattle.stm_events.specs.declared.event.What.TheVariants.{Submitted, Installed, Finished, Cancelled, Declared as DeclaredLate}
 use Rattle.stm_events.specs.Answers.{AnswersAlike, install_answer}
 use Rattle.stm_events.specs.SlowAtomically.{install_at_once, atomically}
 use Rattle.stm_events.specs.declared.staleness.StalenessRule.{StalenessRule}
@@ -32,8 +37,8 @@ use Rattle.stm_desk.proofs.Starts.{start_rule}
 use Rattle.stm_desk.specs.declared.errors.AtomicError.{AtomicError}
 use Rattle.stm_desk.specs.declared.errors.AtomicError.TheVariants as atomic
 use Rattle.stm_events.specs.Laws.{IsWellTyped}
-use Rattle.stm_events.specs.Refusals.{missing, submit_first, submit_refused, cancel_first, cancel_refused, differing, overtaken_first, install_first, pending_left, blocks_there, overflows, finish_first, finish_refused}
-use Rattle.stm_events.specs.SlowDesk.{Waiter, Slow, under, verdict_on, waking, is_blocks, is_new, is_current, find_waiter, without_waiter, stale_after, max_waiting, after, Allows, LegalFrom}
+use Rattle.stm_events.specs.Refusals.{missing, submit_first, submit_refused, declare_first, late_declare_refused, cancel_first, cancel_refused, differing, overtaken_first, install_first, pending_left, blocks_there, overflows, finish_first, finish_refused}
+use Rattle.stm_events.specs.SlowDesk.{Waiter, Slow, under, verdict_on, waking, is_blocks, is_new, is_current, find_waiter, without_waiter, stale_after, max_cells, max_waiting, after, Allows, LegalFrom}
 use Rattle.stm_events.specs.SlowSettle.{Order, next_what, has_cells, settle_on, running, Stop, NoRoom, NoCells, stop_on, run_stop, finishes, installs}
 use Rattle.stm_events.specs.SlowDrain.{next_drain}
 use Rattle.stm_events.specs.States.{IsPossible}
@@ -41,12 +46,13 @@ use Rattle.stm_events.proofs.Alike.{AreAlike, MayBeAlike, alike_without, same_st
 use Rattle.stm_events.proofs.Possible.{had_without, possible_after}
 use Rattle.stm_machine.specs.Machine.{event}
 use Rattle.stm_machine.specs.JobsHandedOut.{sent}
-use Rattle.stm_desk.specs.Refusals.{submit_refusal, atomic_first, events_needed, atomic_refusal, finish_refusal, cancel_refusal, requeued_if_overtaken}
+use Rattle.stm_desk.specs.Refusals.{submit_refusal, declare_refusal, atomic_first, events_needed, atomic_refusal, finish_refusal, cancel_refusal, requeued_if_overtaken}
 use Rattle.stm_desk.specs.DeskView.{DeskView, start_state, state_of, is_full, lacks_room, with_event}
 use Rattle.stm_desk.specs.Settling.{slow_run, slow_run_stop, with_whats}
 use Rattle.stm_blocks.specs.declared.refusal.Refusal.{Refusal}
 use Rattle.stm_commands.specs.Atomically.{ran_text, atomically_block_step, atomically_text_step}
 use Rattle.stm_commands.specs.Blocks.{ticket_line, submit_block_step, submit_text_step}
+use Rattle.stm_commands.specs.Declaring.{declared_line, declare_variable_step, declare_text_step}
 use Rattle.stm_commands.specs.Endings.{finish_verdict_step, finish_waiter_step, finish_ticket_step, finished_line, cancel_ticket_step, run_text, run_desk_step}
 use Rattle.stm_commands.specs.Evaluation.{DeliveredSoFar, delivered_by, delivered_next, delivered_all, all_queued, evaluated, evaluation_text, eval_desk_step}
 use Rattle.stm_commands.specs.Jobs.{jobs_of, delivery_first, delivery_refusal, installed, delivery_step, deliver_job_step, handed_back, queued_line, handback_ticket_step}
@@ -55,10 +61,11 @@ use Rattle.stm_commands.specs.Refusals.{refused}
 use Rattle.stm_run.specs.Unseen.{TellsFull}
 use Rattle.stm_run.proofs.RunAtOnce.{each_legal, run_allowed}
 use Rattle.stm_run.proofs.DeliveredJobs.{next_stands, queued_stand}
-use Rattle.stm_run.proofs.DeskMoves.{submitted_stands, finished_stands, cancelled_stands}
+use Rattle.stm_run.proofs.DeskMoves.{submitted_stands, declared_stands, finished_stands, cancelled_stands}
 use Rattle.stm_run.proofs.LegalSettling.{IsAllowed, IsLawful, next_allowed, drain_allowed}
 use Rattle.stm_run.proofs.LookingAlike.{AlikeDesks, same_store, same_next, same_waiters, same_found, same_answers, alike_event, allowed_by, alike_pending, full_too, same_refusal, jobs_alike}
 use Rattle.stm_run.proofs.StandingDesk.{Stands, state_later}
+use Rattle.stm_run.proofs.DeclaredVariables.{LateOrTold}
 use Rattle.stm_run.proofs.TextsJudged.{BlockOrTold}
 
 -- what steps of two desks come to
@@ -98,12 +105,49 @@ submit_by b d d' jobs block w st k None e =
       text = ap ticket_line (same_next b d d' k);
     }
 
-pub submit_alike : (b : Bool) (d d' : DeskView) (jobs : List HandedOut) (r : Result Block Refusal) → BlockOrTold d.table r → Stands d jobs → AlikeDesks b d d'
+pub submit_alike : (b : Bool) (d d' : DeskView) (jobs : List HandedOut) (r : Result Block Refusal) → BlockOrTold (state_of d).names r → Stands d jobs → AlikeDesks b d d'
     → NotFull b (submit_text_step d r).1 (submit_text_step d' r).1 → AlikeSteps b (submit_text_step d r) (submit_text_step d' r)
 submit_alike b d d' jobs (Err x) h st k n = record { desks = k; text = refl }
 submit_alike b d d' jobs (Ok block) h st k n =
     subst (λ (o : Option SubmitError). AlikeSteps b (submit_block_step d block (submit_refusal d block)) (submit_block_step d' block o)) (submit_same b d d' block k n)
     (submit_by b d d' jobs block h.0 st k (submit_refusal d block) refl)
+
+-- ---- declare
+declare_either : (taken holds room : Bool) → (declare_first taken holds true room ≡ declare_first taken holds false room) ⊎ (declare_first taken holds true room ≡ Some late.HistoryFull)
+declare_either true holds room = inl refl
+declare_either false false room = inl refl
+declare_either false true room = inr refl
+
+declare_full : (d : DeskView) (v : Declared) (o : Option LateDeclareError) → o ≡ Some late.HistoryFull → TellsFull (declare_variable_step d v o).1
+declare_full d v o e = inl (ap (λ (x : Option LateDeclareError). (declare_variable_step d v x).1) e)
+
+abbrev refused_as : DeskView → Declared → Option LateDeclareError
+refused_as d v = declare_refusal d v.name v.kind v.value
+
+declare_same : (b : Bool) (d d' : DeskView) (v : Declared) → AlikeDesks b d d' → NotFull b (declare_variable_step d v (refused_as d v)).1 (declare_variable_step d' v (refused_as d' v)).1 → refused_as d v ≡ refused_as d' v
+declare_same b d d' v k n =
+    let s = state_of d in
+    let there : late_declare_refused s (is_full d') v.name v.kind v.value ≡ refused_as d' v = (same_answers b d d' k).declare (is_full d') v.name v.kind v.value in
+    same_refusal (λ full. late_declare_refused s full v.name v.kind v.value) late.HistoryFull
+    (declare_either (is_some (number_named v.name s.names)) (may_hold_known s.names v.kind v.value) (nat_lt (length s.store) max_cells)) b (is_full d) (is_full d') (full_too b d d' k)
+    (λ e. n.0 (declare_full d v (refused_as d v) e)) (λ q e. n.1 q (declare_full d' v (refused_as d' v) (sym there ∙ e))) ∙ there
+
+declare_by : (b : Bool) (d d' : DeskView) (jobs : List HandedOut) (v : Declared) → IsTrue (is_name_text v.name) → Stands d jobs → AlikeDesks b d d' → (o : Option LateDeclareError) → refused_as d v ≡ o
+    → AlikeSteps b (declare_variable_step d v o) (declare_variable_step d' v o)
+declare_by b d d' jobs v word st k (Some x) e = record { desks = k; text = refl }
+declare_by b d d' jobs v word st k None e =
+    let what = DeclaredLate v.name v.kind v.value in
+    record {
+      desks = alike_event b d d' what (allowed_by d jobs what (declared_stands d jobs v word None e st)) k;
+      text = ap (λ (c : List Cell). declared_line (length c) v.name) (same_store b d d' k);
+    }
+
+pub declare_alike : (b : Bool) (d d' : DeskView) (jobs : List HandedOut) (r : Result Declared Refusal) → LateOrTold r → Stands d jobs → AlikeDesks b d d'
+    → NotFull b (declare_text_step d r).1 (declare_text_step d' r).1 → AlikeSteps b (declare_text_step d r) (declare_text_step d' r)
+declare_alike b d d' jobs (Err x) h st k n = record { desks = k; text = refl }
+declare_alike b d d' jobs (Ok v) h st k n =
+    subst (λ (o : Option LateDeclareError). AlikeSteps b (declare_variable_step d v (refused_as d v)) (declare_variable_step d' v o)) (declare_same b d d' v k n)
+    (declare_by b d d' jobs v h.0 st k (refused_as d v) refl)
 
 -- ---- cancel
 cancel_either : (o : Option Waiter) → (cancel_first o true ≡ cancel_first o false) ⊎ (cancel_first o true ≡ Some cancel.HistoryFull)
@@ -523,7 +567,7 @@ atomic_by b d d' jobs block st k None e =
       text = ap ran_text same;
     }
 
-pub atomically_alike : (b : Bool) (d d' : DeskView) (jobs : List HandedOut) (r : Result Block Refusal) → BlockOrTold d.table r → Stands d jobs → AlikeDesks b d d'
+pub atomically_alike : (b : Bool) (d d' : DeskView) (jobs : List HandedOut) (r : Result Block Refusal) → BlockOrTold (state_of d).names r → Stands d jobs → AlikeDesks b d d'
     → NotFull b (atomically_text_step d r).1 (atomically_text_step d' r).1 → AlikeSteps b (atomically_text_step d r) (atomically_text_step d' r)
 atomically_alike b d d' jobs (Err x) h st k n = record { desks = k; text = refl }
 atomically_alike b d d' jobs (Ok block) h st k n =

@@ -1,4 +1,4 @@
--- A variable that a text declares can be in a line of a history.
+-- A variable that a text declares can be in a line of a history, also one that it declares late if its number is small.
 use Rattle.std.proofs.Common.{◌≡◌, ℕ, zero, suc, ◌+◌, ◌-◌, ◌<◌, ◌≤◌, ◌^◌, Bool, true, false, cond, IsTrue, List, [], ◌∷◌, ◌++◌, length, drop, Option, Some, None, Result, Ok, Err, IfOk, pos, refl, sym, subst, rules, arith, length-drop}
 use Rattle.std.specs.Prelude.{not, ◌&&◌, nat_le, nat_lt, neg_ℤ, is_some}
 use Rattle.std.specs.Str.{bytes_eq}
@@ -6,6 +6,8 @@ use Rattle.std.proofs.lemmas.Bool.Decides.{nat_tests}
 use Rattle.stm_terms.specs.ParsedAst.{text_at, RawTerm}
 use Rattle.stm_terms.specs.declared.kinds.Ty.{Ty}
 use Rattle.stm_terms.specs.declared.values.Value.{Value}
+use Rattle.stm_terms.specs.declared.values.Value.TheVariants as value
+use Rattle.stm_terms.specs.declared.values.Ref.TheVariants.{Old, New}
 use Rattle.stm_terms.specs.Limits.{most_refs}
 use Rattle.stm_terms.specs.Names.{is_name_text}
 use Rattle.stm_parse.specs.declared.fault.ParseFault.{ParseFault}
@@ -21,12 +23,15 @@ use Rattle.stm_parse.proofs.LongestTokenInFront.{nothing_is_no_token}
 use Rattle.stm_parse.proofs.TreeNamesAndSize.{names_of, kept_declaration}
 use Rattle.stm_store.specs.declared.table.DeclareError.{DeclareError}
 use Rattle.stm_store.specs.declared.table.DeclareError.TheVariants as declare
+use Rattle.stm_store.specs.Naming.{Named, number_named}
 use Rattle.stm_store.specs.Tables.{Declared, declared_cells, number_from, number_of, is_of, may_hold, declare_refusal}
 use Rattle.stm_events.specs.SlowDesk.{max_cells}
 use Rattle.stm_event_lines.specs.Fits.{FitsInt, FitsValue}
 use Rattle.stm_history.specs.Judgement.{MayDeclare}
 use Rattle.stm_blocks.specs.declared.refusal.Refusal.{Refusal}
-use Rattle.stm_blocks.specs.DeclaredVariable.{reference_to, initial, unless_refused, with_initial_value, on_declaration, variable_of}
+use Rattle.stm_blocks.specs.DeclaredVariable.{reference_to, initial, unless_refused, with_initial_value, on_declaration, variable_of, late_initial, with_late_value, on_late_declaration, late_variable_of}
+use Rattle.stm_blocks.specs.OutOfMemory.{IsOutOfMemory}
+use Rattle.stm_run.specs.Fitting.{IsReferenceSmall}
 
 -- ---- the tokens of a text come one after another
 abbrev Rises : ℕ → ℕ → Tokenization → Type 0
@@ -154,3 +159,59 @@ module _ (declarations : DeclarationAnswersAreRight) where
   pub may_be_next : (table : List Declared) (text : List ℕ) (d : Declared) → length table ≤ max_cells → variable_of table text ≡ Ok d → MayBeNext table d
   unfolding variable_of parsed_declaration
   may_be_next table text d few e = by_tree table text d few (declared_tree text) (declarations text) e
+
+-- ---- a variable that is declared late
+-- the value is in range, if it is no reference
+abbrev pub IsLiteralInRange : Value → Type 0
+IsLiteralInRange (value.Int n) = FitsValue (value.Int n)
+IsLiteralInRange (value.Bool b) = Unit {0}
+IsLiteralInRange value.Unit = Unit {0}
+IsLiteralInRange (value.Var r) = Unit {0}
+
+literal_in_range : (v : Value) → FitsValue v → IsLiteralInRange v
+literal_in_range (value.Int n) f = f
+literal_in_range (value.Bool b) f = tt
+literal_in_range value.Unit f = tt
+literal_in_range (value.Var r) f = tt
+
+pub fits_value : (v : Value) → IsLiteralInRange v → IsReferenceSmall v → FitsValue v
+fits_value (value.Int n) f r = f
+fits_value (value.Bool b) f r = tt
+fits_value value.Unit f r = tt
+fits_value (value.Var (Old i)) f r = r
+fits_value (value.Var (New k)) f r = r
+
+-- its name is one, and its first value is in range if it is no reference; a refusal isn't for lack of memory
+abbrev pub LateOrTold : Result Declared Refusal → Type 0
+LateOrTold (Ok v) = IsTrue (is_name_text v.name) × IsLiteralInRange v.value
+LateOrTold (Err e) = ¬ IsOutOfMemory e
+
+abbrev ValueOrTold : Result Value Refusal → Type 0
+ValueOrTold (Ok v) = IsLiteralInRange v
+ValueOrTold (Err e) = ¬ IsOutOfMemory e
+
+late_reference : (place : ℕ) (o : Option ℕ) → ValueOrTold (reference_to place o)
+late_reference place (Some i) = tt
+late_reference place None = λ k. k
+
+late_value : (known : List Named) (init : ParsedInit) → InitFits init → ValueOrTold (late_initial known init)
+late_value known (literal v) f = literal_in_range v f
+late_value known (named name place) f = late_reference place (number_named name known)
+
+late_by_value : (name : List ℕ) (kind : Ty) (r : Result Value Refusal) → is_name_text name ≡ true → ValueOrTold r → LateOrTold (with_late_value name kind r)
+late_by_value name kind (Ok v) word value = (subst IsTrue (sym word) truth, value)
+  where
+    truth : IsTrue true
+    truth = search rules
+late_by_value name kind (Err e) word value = value
+
+module _ (declarations : DeclarationAnswersAreRight) where
+  late_by_tree : (known : List Named) (text : List ℕ) (r : Result DeclarationTree ParseFault) → IsAnswer IsDeclaration text r → LateOrTold (on_late_declaration known (declaration_result text r))
+  late_by_tree known text (Err f) h = h.0
+  late_by_tree known text (Ok t) h =
+      let tree = h.2 in
+      late_by_value (text_at text t.name) t.ty (late_initial known (init_of text t.init)) (name_text text t h) (late_value known (init_of text t.init) (tree_fits text tree.0 t tree.1 tree.2))
+
+  pub late_judged : (known : List Named) (text : List ℕ) → LateOrTold (late_variable_of known text)
+  unfolding late_variable_of parsed_declaration
+  late_judged known text = late_by_tree known text (declared_tree text) (declarations text)

@@ -1,7 +1,7 @@
 -- On a desk that stands, each command answers with a text that ends with a line feed: `try` has a verdict to tell, `finish`
 -- has an effect, and no refusal is an out-of-memory error.
 use Rattle.std.proofs.Common.{◌≡◌, ℕ, ◌+◌, Bool, true, false, List, ◌∷◌, ◌++◌, length, Option, Some, None, Result, Ok, Err, refl, sym, subst, ap, ◌∙◌}
-use Rattle.std.specs.Prelude.{codes, decimal, nat_lt, nat_le, ◌-◌, drop}
+use Rattle.std.specs.Prelude.{codes, decimal, is_some, nat_lt, nat_le, ◌-◌, drop}
 use Rattle.stm_terms.specs.declared.verdicts.Verdict.{Verdict}
 use Rattle.stm_terms.specs.declared.verdicts.Verdict.TheVariants.{Commits, Throws, Blocks}
 use Rattle.stm_terms.specs.ReadSet.{reads_of}
@@ -10,10 +10,12 @@ use Rattle.stm_check.specs.Laws.{VerdictFits}
 use Rattle.stm_check.specs.TypedBlock.{Block}
 use Rattle.stm_store.specs.declared.cell.Cell.{Cell}
 use Rattle.stm_store.specs.Cells.{plains, renumbered, changed_by}
+use Rattle.stm_store.specs.Naming.{Named, may_hold_known, number_named}
 use Rattle.stm_store.specs.Tables.{Declared}
 use Rattle.stm_events.specs.declared.errors.CancelError.{CancelError}
 use Rattle.stm_events.specs.declared.errors.DeliverError.{DeliverError}
 use Rattle.stm_events.specs.declared.errors.FinishError.{FinishError}
+use Rattle.stm_events.specs.declared.errors.LateDeclareError.{LateDeclareError}
 use Rattle.stm_events.specs.declared.errors.SubmitError.{SubmitError}
 use Rattle.stm_events.specs.declared.event.What.{What}
 use Rattle.stm_events.specs.SlowAtomically.{atomically}
@@ -22,36 +24,39 @@ use Rattle.stm_events.proofs.Atomically.{whats_waiting, whats_ending}
 use Rattle.stm_events.proofs.TypedStores.{typed_verdict}
 use Rattle.stm_history.specs.Starts.{written_start}
 use Rattle.stm_events.specs.Refusals.{missing, blocks_there, overflows, finish_first}
-use Rattle.stm_events.specs.SlowDesk.{Since, Waiter, Slow, under, verdict_on, waking, is_blocks, is_new, is_current, find_waiter, without_waiter, stale_after, max_waiting}
+use Rattle.stm_events.specs.SlowDesk.{Since, Waiter, Slow, under, verdict_on, waking, is_blocks, is_new, is_current, find_waiter, without_waiter, stale_after, max_cells, max_waiting}
 use Rattle.stm_events.specs.SlowSettle.{Stop, NoRoom, NoCells, finishes, installs}
 use Rattle.stm_desk.specs.declared.errors.AtomicError.{AtomicError}
-use Rattle.stm_desk.specs.Refusals.{submit_refusal, events_needed, atomic_refusal, finish_refusal, cancel_refusal}
+use Rattle.stm_desk.specs.Refusals.{submit_refusal, declare_refusal, events_needed, atomic_refusal, finish_refusal, cancel_refusal}
 use Rattle.stm_desk.specs.Reasons.{WaitReason, reason_of}
 use Rattle.stm_desk.specs.DeskView.{DeskView, state_of, is_full, lacks_room}
 use Rattle.stm_desk.specs.Settling.{slow_settle, slow_stop, slow_drain, slow_drain_stop, requeued_all}
 use Rattle.stm_run.specs.declared.command.Command.{Command}
-use Rattle.stm_run.specs.declared.command.Command.TheVariants.{Tvar, Try, Looks, Submit, Atomically, Take, Deliver, Handback, Eval, Finish, Cancel, Show, Reads, Store, Settle, Drain, History, Ready, Why, Events, Checkpoint}
+use Rattle.stm_run.specs.declared.command.Command.TheVariants.{Tvar, Declare, Try, Looks, Submit, Atomically, Take, Deliver, Handback, Eval, Finish, Cancel, Show, Reads, Store, Settle, Drain, History, Ready, Why, Events, Checkpoint}
 use Rattle.stm_blocks.specs.declared.refusal.Refusal.{Refusal}
 use Rattle.stm_lines.specs.NumberArgument.{number_argument}
 use Rattle.stm_blocks.specs.CompiledBlock.{compiled_block}
+use Rattle.stm_blocks.specs.DeclaredVariable.{late_variable_of}
 use Rattle.stm_commands.specs.Arguments.{argument_refused}
 use Rattle.stm_commands.specs.Atomically.{waits_line, ran_text, atomically_block_step, atomically_text_step, atomically_step}
 use Rattle.stm_commands.specs.Blocks.{verdict_line, tried_text, try_answer, reads_line, looked_text, looks_answer, ticket_line, submit_block_step, submit_text_step, submit_step}
 use Rattle.stm_commands.specs.Checkpointing.{are_tickets_full, begun_anew, checkpoint_line, checkpoint_now, checkpoint_step}
 use Rattle.stm_commands.specs.Contents.{waiter_lines, show_text, show_answer, read_text, waiter_reads_text, reads_answer, stored_lines, store_text, store_answer, history_answer, events_text}
+use Rattle.stm_commands.specs.Declaring.{declared_line, declare_variable_step, declare_text_step, declare_step}
 use Rattle.stm_commands.specs.Endings.{tickets_text, result_line, finished_line, cancelled_line, settled_line, drained_line, run_text, finish_ticket_step, finish_step, cancel_ticket_step, cancel_step, settle_desk_step, settle_step, drain_desk_step, drain_step, finish_verdict_step, finish_waiter_step}
 use Rattle.stm_commands.specs.Evaluation.{evaluated_line, evaluated, evaluation_text, eval_step, eval_desk_step}
 use Rattle.stm_commands.specs.Jobs.{max_jobs, taken, job_text, numbered, jobs_line, delivery_refusal, delivered_line, job_at, queued_line, with_jobs, take_jobs_step, take_step, delivery_step, deliver_job_step, deliver_step, handed_back, handback_ticket_step, handback_step}
-use Rattle.stm_commands.specs.OpenDesk.{HandedOut, OpenDesk, present, on_desk}
+use Rattle.stm_commands.specs.OpenDesk.{HandedOut, OpenDesk, known, present, on_desk}
 use Rattle.stm_commands.specs.Questions.{ready_tickets, ready_text, ready_answer, reason_text, why_line, why_answer, later_events_text, events_answer}
 use Rattle.stm_commands.specs.Refusals.{refused}
 use Rattle.stm_run.specs.Console.{desk_step}
 use Rattle.stm_run.specs.Laws.{EndsALine}
 use Rattle.stm_run.proofs.ArgumentCases.{either_has, number_has, nothing_has}
-use Rattle.stm_run.proofs.EndedLines.{refused_ends, refusal_ends, submit_error_ends, atomic_error_ends, deliver_error_ends, finish_error_ends, cancel_error_ends, history_ends, counted_end}
+use Rattle.stm_run.proofs.EndedLines.{refused_ends, refusal_ends, late_declare_error_ends, submit_error_ends, atomic_error_ends, deliver_error_ends, finish_error_ends, cancel_error_ends, history_ends, counted_end}
+use Rattle.stm_run.proofs.DeclaredVariables.{LateOrTold}
 use Rattle.stm_run.proofs.TextsJudged.{BlockOrTold}
 use Rattle.stm_run.proofs.StandingDesk.{Stands, stands_sound}
-use Rattle.stm_run.proofs.DeskMoves.{submit_told, cancel_told, finish_told, may_end}
+use Rattle.stm_run.proofs.DeskMoves.{submit_told, declare_told, cancel_told, finish_told, may_end}
 use Rattle.stm_run.proofs.RunAtOnce.{atomic_told}
 use Rattle.stm_run.proofs.DeliveredJobs.{refusal_told, evaluated_told}
 use Rattle.stm_queue.specs.Queue.{is_out}
@@ -68,10 +73,10 @@ unfolding verdict_line
 verdict_ends v (Some w) e = (verdict_text w, refl)
 verdict_ends v None e = absurd cc
 
-looked_ends : (table : List Declared) (cells : List Cell) (r : Result Block Refusal) → BlockOrTold table r → EndsALine (looked_text cells r)
+looked_ends : (names : List Named) (cells : List Cell) (r : Result Block Refusal) → BlockOrTold names r → EndsALine (looked_text cells r)
 unfolding reads_line
-looked_ends table cells (Ok b) h = (codes "reads " ++ list_text write_text (reads_of (under cells) b.tree), refl)
-looked_ends table cells (Err x) h = refusal_ends x h
+looked_ends names cells (Ok b) h = (codes "reads " ++ list_text write_text (reads_of (under cells) b.tree), refl)
+looked_ends names cells (Err x) h = refusal_ends x h
 
 submitted_ends : (d : DeskView) (block : Block) (o : Option SubmitError) → submit_refusal d block ≡ o → EndsALine (submit_block_step d block o).1
 unfolding ticket_line
@@ -79,9 +84,21 @@ submitted_ends d block None e = (codes "ticket " ++ decimal (state_of d).next, r
 submitted_ends d block (Some x) e =
     submit_error_ends x (λ m. submit_told (missing (plains (state_of d).store) block.uses) (nat_le max_waiting (length (state_of d).waiters)) (is_full d) (e ∙ ap Some m))
 
-submit_ends : (d : DeskView) (r : Result Block Refusal) → BlockOrTold d.table r → EndsALine (submit_text_step d r).1
+submit_ends : (d : DeskView) (r : Result Block Refusal) → BlockOrTold (state_of d).names r → EndsALine (submit_text_step d r).1
 submit_ends d (Ok b) h = submitted_ends d b (submit_refusal d b) refl
 submit_ends d (Err x) h = refusal_ends x h
+
+-- ---- declarations
+declared_ends : (d : DeskView) (v : Declared) (o : Option LateDeclareError) → declare_refusal d v.name v.kind v.value ≡ o → EndsALine (declare_variable_step d v o).1
+unfolding declared_line
+declared_ends d v None e = (codes "declared #" ++ decimal (length (state_of d).store) ++ 32 ∷ v.name, refl)
+declared_ends d v (Some x) e =
+    let s = state_of d in
+    late_declare_error_ends x (λ m. declare_told (is_some (number_named v.name s.names)) (may_hold_known s.names v.kind v.value) (is_full d) (nat_lt (length s.store) max_cells) (e ∙ ap Some m))
+
+declare_ends : (d : DeskView) (r : Result Declared Refusal) → LateOrTold r → EndsALine (declare_text_step d r).1
+declare_ends d (Ok v) h = declared_ends d v (declare_refusal d v.name v.kind v.value) refl
+declare_ends d (Err x) h = refusal_ends x h
 
 -- ---- jobs
 take_ends : (d : OpenDesk) (n : ℕ) → Ends (take_jobs_step d n)
@@ -169,9 +186,9 @@ waiter_ends : (o : Option Waiter) → EndsALine (waiter_reads_text o)
 waiter_ends (Some w) = read_ends w.block w.since
 waiter_ends None = refused_ends (codes "NoTicket")
 
-cells_end : (table : List Declared) (cells : List Cell) → EndsALine (store_text table cells)
+cells_end : (names : List Named) (cells : List Cell) → EndsALine (store_text names cells)
 unfolding store_text
-cells_end table cells = (stored_lines table 0 cells ++ codes "cells " ++ decimal (length cells), refl)
+cells_end names cells = (stored_lines names 0 cells ++ codes "cells " ++ decimal (length cells), refl)
 
 -- ---- questions
 ready_ends : (s : Slow) → EndsALine (ready_text s)
@@ -192,19 +209,19 @@ checkpoint_ends d =
     either_has Ends (are_tickets_full d) (d, refused (codes "TicketsFull")) (begun_anew d, checkpoint_line (length d.desk.history)) (refused_ends (codes "TicketsFull"))
     (codes "checkpoint " ++ decimal (length d.desk.history), refl)
 
-module _ (judged : (table : List Declared) (text : List ℕ) → BlockOrTold table (compiled_block table text)) (fits : VerdictFits) where
-  -- a well typed block whose variables are declared has a verdict on the present store
-  tried_ends : (d : OpenDesk) → Stands d.desk d.jobs → (r : Result Block Refusal) → BlockOrTold d.desk.table r → EndsALine (tried_text (present d) r)
+module _ (judged : (names : List Named) (text : List ℕ) → BlockOrTold names (compiled_block names text)) (late : (names : List Named) (text : List ℕ) → LateOrTold (late_variable_of names text)) (fits : VerdictFits) where
+  -- a well typed block over the names has a verdict on the present store
+  tried_ends : (d : OpenDesk) → Stands d.desk d.jobs → (r : Result Block Refusal) → BlockOrTold (known d) r → EndsALine (tried_text (present d) r)
   tried_ends d k (Ok b) h =
       let sound = stands_sound d.desk d.jobs k in
-      let v = fits (plains (present d)) b.uses b.tree h.0.0 sound.typed.store (sound.declared b.uses h.1) h.0.1 in
+      let v = fits (plains (present d)) b.uses b.tree h.0.0 sound.typed.store (h.1 (plains (present d)) sound.possible.named) h.0.1 in
       verdict_ends v.0 (verdict_on (present d) b) v.1
   tried_ends d k (Err x) h = refusal_ends x h
 
-  atomically_ends : (d : OpenDesk) → Stands d.desk d.jobs → (r : Result Block Refusal) → BlockOrTold d.desk.table r → EndsALine (atomically_text_step d.desk r).1
+  atomically_ends : (d : OpenDesk) → Stands d.desk d.jobs → (r : Result Block Refusal) → BlockOrTold (known d) r → EndsALine (atomically_text_step d.desk r).1
   atomically_ends d k (Ok b) h =
       let sound = stands_sound d.desk d.jobs k in
-      let v = fits (plains (present d)) b.uses b.tree h.0.0 sound.typed.store (sound.declared b.uses h.1) h.0.1 in
+      let v = fits (plains (present d)) b.uses b.tree h.0.0 sound.typed.store (h.1 (plains (present d)) sound.possible.named) h.0.1 in
       run_ends d.desk b (atomic_refusal d.desk b) refl (ran_ends (state_of d.desk) b v.0 sound.possible v.1)
   atomically_ends d k (Err x) h = refusal_ends x h
 
@@ -227,12 +244,13 @@ module _ (judged : (table : List Declared) (text : List ℕ) → BlockOrTold tab
   finish_ends d jobs t (Some x) e k = finish_error_ends x (λ m. finish_told (state_of d).store (is_full d) (find_waiter t (state_of d).waiters) (e ∙ ap Some m))
 
   pub desk_ends : (d : OpenDesk) → Stands d.desk d.jobs → (c : Command) (argument : List ℕ) → Ends (desk_step d c argument)
-  unfolding try_answer looks_answer submit_step atomically_step checkpoint_step take_step deliver_step handback_step eval_step finish_step cancel_step show_answer reads_answer store_answer settle_step drain_step history_answer ready_answer why_answer events_answer
+  unfolding declare_step try_answer looks_answer submit_step atomically_step checkpoint_step take_step deliver_step handback_step eval_step finish_step cancel_step show_answer reads_answer store_answer settle_step drain_step history_answer ready_answer why_answer events_answer
   desk_ends d k Tvar argument = refused_ends (codes "Late")
-  desk_ends d k Try argument = tried_ends d k (compiled_block d.desk.table argument) (judged d.desk.table argument)
-  desk_ends d k Looks argument = looked_ends d.desk.table (present d) (compiled_block d.desk.table argument) (judged d.desk.table argument)
-  desk_ends d k Submit argument = submit_ends d.desk (compiled_block d.desk.table argument) (judged d.desk.table argument)
-  desk_ends d k Atomically argument = atomically_ends d k (compiled_block d.desk.table argument) (judged d.desk.table argument)
+  desk_ends d k Declare argument = declare_ends d.desk (late_variable_of (known d) argument) (late (known d) argument)
+  desk_ends d k Try argument = tried_ends d k (compiled_block (known d) argument) (judged (known d) argument)
+  desk_ends d k Looks argument = looked_ends (known d) (present d) (compiled_block (known d) argument) (judged (known d) argument)
+  desk_ends d k Submit argument = submit_ends d.desk (compiled_block (known d) argument) (judged (known d) argument)
+  desk_ends d k Atomically argument = atomically_ends d k (compiled_block (known d) argument) (judged (known d) argument)
   desk_ends d k Take argument = number_has Ends (take_jobs_step d) (d, argument_refused) (number_argument argument) (take_ends d) bad_ends
   desk_ends d k Deliver argument = number_has Ends (λ n. on_desk d (deliver_job_step d.desk (job_at n d.jobs))) (d, argument_refused) (number_argument argument) (λ n. deliver_ends d.desk (job_at n d.jobs)) bad_ends
   desk_ends d k Handback argument = number_has Ends (λ t. on_desk d (handback_ticket_step d.desk t)) (d, argument_refused) (number_argument argument) (handback_ends d.desk) bad_ends
@@ -247,14 +265,14 @@ module _ (judged : (table : List Declared) (text : List ℕ) → BlockOrTold tab
   desk_ends d k Show argument = nothing_has EndsALine (show_text (state_of d.desk)) argument_refused argument (show_ends (state_of d.desk)) bad_ends
   desk_ends d k Reads argument =
       number_has EndsALine (λ t. waiter_reads_text (find_waiter t (state_of d.desk).waiters)) argument_refused (number_argument argument) (λ t. waiter_ends (find_waiter t (state_of d.desk).waiters)) bad_ends
-  desk_ends d k Store argument = nothing_has EndsALine (store_text d.desk.table (present d)) argument_refused argument (cells_end d.desk.table (present d)) bad_ends
+  desk_ends d k Store argument = nothing_has EndsALine (store_text (known d) (present d)) argument_refused argument (cells_end (known d) (present d)) bad_ends
   desk_ends d k Settle argument =
       let e = requeued_all d.desk in
       nothing_has Ends (on_desk d (settle_desk_step e)) (d, argument_refused) argument (settle_ends (slow_settle e) (slow_stop e)) bad_ends
   desk_ends d k Drain argument =
       let e = requeued_all d.desk in
       nothing_has Ends (on_desk d (drain_desk_step e)) (d, argument_refused) argument (drain_ends (slow_drain e) (slow_drain_stop e)) bad_ends
-  desk_ends d k History argument = nothing_has EndsALine (events_text d) argument_refused argument (history_ends (written_start d.desk.table d.desk.checkpoint) d.desk.history) bad_ends
+  desk_ends d k History argument = nothing_has EndsALine (events_text d) argument_refused argument (history_ends (written_start d.desk.table d.desk.checkpoint d.desk.history) d.desk.history) bad_ends
   desk_ends d k Ready argument = nothing_has EndsALine (ready_text (state_of d.desk)) argument_refused argument (ready_ends (state_of d.desk)) bad_ends
   desk_ends d k Why argument = number_has EndsALine (λ t. why_line t (reason_of d.desk t)) argument_refused (number_argument argument) (λ t. why_ends t (reason_of d.desk t)) bad_ends
   desk_ends d k Events argument = number_has EndsALine (later_events_text d) argument_refused (number_argument argument) (later_events_end d) bad_ends

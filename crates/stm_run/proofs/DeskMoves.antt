@@ -1,28 +1,34 @@
--- What `submit`, `finish` and `cancel` do is allowed where they aren't refused, so the desk goes on standing.
+-- What `submit`, `declare`, `finish` and `cancel` do is allowed where they aren't refused, so the desk goes on standing.
 use Rattle.std.proofs.Common.{◌≡◌, ℕ, ◌+◌, ◌<◌, ◌≤◌, Bool, true, false, cond, not, List, [], ◌∷◌, length, Option, Some, None, refl, sym, subst, ap, arith}
-use Rattle.std.specs.Prelude.{nat_le, IsSomeAnd}
+use Rattle.std.specs.Prelude.{nat_le, nat_lt, is_some, IsSomeAnd, IsTrue}
 use Rattle.std.proofs.lemmas.Bool.Decides.{nat_tests}
 use Rattle.stm_terms.specs.declared.kinds.Ty.{Ty}
 use Rattle.stm_terms.specs.declared.values.Value.{Value}
 use Rattle.stm_terms.specs.declared.verdicts.Verdict.{Verdict}
+use Rattle.stm_terms.specs.Names.{is_name_text}
 use Rattle.stm_store.specs.declared.cell.Cell.{Cell}
 use Rattle.stm_store.specs.Cells.{plains, Covers, kinds_of, made_by, changed_by}
-use Rattle.stm_store.specs.Tables.{is_type}
+use Rattle.stm_store.specs.Naming.{may_hold_known, number_named}
+use Rattle.stm_store.specs.Tables.{Declared, is_type}
 use Rattle.stm_check.specs.TypedBlock.{Block}
-use Rattle.stm_events.specs.declared.event.What.TheVariants.{Submitted, Finished, Cancelled}
+use Rattle.stm_events.specs.declared.event.What.TheVariants.{Submitted, Finished, Cancelled, Declared as DeclaredLate}
 use Rattle.stm_events.specs.declared.errors.SubmitError.{SubmitError}
 use Rattle.stm_events.specs.declared.errors.SubmitError.TheVariants as submit
+use Rattle.stm_events.specs.declared.errors.LateDeclareError.{LateDeclareError}
+use Rattle.stm_events.specs.declared.errors.LateDeclareError.TheVariants as late
 use Rattle.stm_events.specs.declared.errors.FinishError.{FinishError}
 use Rattle.stm_events.specs.declared.errors.FinishError.TheVariants as finish
 use Rattle.stm_events.specs.declared.errors.CancelError.{CancelError}
 use Rattle.stm_events.specs.declared.errors.CancelError.TheVariants as cancel
 use Rattle.stm_events.specs.Laws.{IsWellTyped}
-use Rattle.stm_events.specs.Refusals.{missing, submit_first, blocks_there, overflows, finish_first, cancel_first}
+use Rattle.stm_events.specs.Refusals.{missing, submit_first, declare_first, late_declare_refused, blocks_there, overflows, finish_first, cancel_first}
 use Rattle.stm_events.specs.SlowDesk.{Waiter, verdict_on, is_new, is_current, find_waiter, without_waiter, stale_after, waking, max_cells, max_waiting, MayFinish}
 use Rattle.stm_events.specs.declared.staleness.StalenessRule.{StalenessRule}
-use Rattle.stm_desk.specs.Refusals.{submit_refusal, finish_refusal, cancel_refusal}
+use Rattle.stm_machine.proofs.Declaring.{may_declare}
+use Rattle.stm_desk.specs.Refusals.{submit_refusal, declare_refusal, finish_refusal, cancel_refusal}
 use Rattle.stm_desk.specs.DeskView.{DeskView, state_of, is_full}
 use Rattle.stm_commands.specs.Blocks.{submit_block_step}
+use Rattle.stm_commands.specs.Declaring.{declare_variable_step}
 use Rattle.stm_commands.specs.Endings.{finish_ticket_step, cancel_ticket_step, finish_verdict_step, finish_waiter_step}
 use Rattle.stm_commands.specs.OpenDesk.{HandedOut}
 use Rattle.stm_run.proofs.StandingDesk.{Stands, stands_sound, stands_event}
@@ -65,6 +71,29 @@ submit_told (Some i) many full e = cc
 submit_told None true full e = cc
 submit_told None false true e = cc
 submit_told None false false e = cc
+
+-- ---- declare
+has_event_room : (taken holds full room : Bool) → declare_first taken holds full room ≡ None → full ≡ false
+has_event_room true holds full room e = absurd cc
+has_event_room false false full room e = absurd cc
+has_event_room false true true room e = absurd cc
+has_event_room false true false room e = refl
+
+pub declared_stands : (d : DeskView) (jobs : List HandedOut) (v : Declared) → IsTrue (is_name_text v.name) → (o : Option LateDeclareError) → declare_refusal d v.name v.kind v.value ≡ o → Stands d jobs → Stands (declare_variable_step d v o).0 jobs
+declared_stands d jobs v n (Some x) e k = k
+declared_stands d jobs v n None e k =
+    let s = state_of d in
+    let room : is_full d ≡ false = has_event_room (is_some (number_named v.name s.names)) (may_hold_known s.names v.kind v.value) (is_full d) (nat_lt (length s.store) max_cells) e in
+    let may : late_declare_refused s false v.name v.kind v.value ≡ None = subst (λ (full : Bool). late_declare_refused s full v.name v.kind v.value ≡ None) room e in
+    stands_event d jobs (DeclaredLate v.name v.kind v.value) room (may_declare s v.name v.kind v.value n may) tt k
+
+-- what a declaration is refused for is printed
+pub declare_told : (taken holds full room : Bool) → declare_first taken holds full room ≡ Some late.NoMemory → ⊥
+declare_told true holds full room e = cc
+declare_told false false full room e = cc
+declare_told false true true room e = cc
+declare_told false true false true e = cc
+declare_told false true false false e = cc
 
 -- ---- cancel
 pub cancelled_stands : (d : DeskView) (jobs : List HandedOut) (t : ℕ) (o : Option CancelError) → cancel_refusal d t ≡ o → Stands d jobs → Stands (cancel_ticket_step d t o).0 jobs

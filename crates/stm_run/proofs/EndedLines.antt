@@ -1,11 +1,14 @@
 -- Texts that end with a line feed: each refusal that is printed, and the text of a history.
-use Rattle.std.proofs.Common.{◌≡◌, ◌≢◌, ℕ, List, [], ◌∷◌, ◌++◌, length, Option, Some, None, refl, sym, subst, append_assoc}
+use Rattle.std.proofs.Common.{◌≡◌, ◌≢◌, ℕ, ◌+◌, List, [], ◌∷◌, ◌++◌, length, Option, Some, None, refl, sym, subst, append_assoc}
 use Rattle.std.specs.Prelude.{codes, decimal}
 use Rattle.stm_parse.specs.declared.fault.ParseFault.TheVariants as parse
 use Rattle.stm_check.specs.declared.fault.TypeFault.TheVariants as typed
 use Rattle.stm_store.specs.declared.table.DeclareError.TheVariants as declare
+use Rattle.stm_store.specs.Naming.{Named, name_numbered}
 use Rattle.stm_store.specs.Tables.{Declared}
 use Rattle.stm_events.specs.declared.event.Event.{Event}
+use Rattle.stm_events.specs.declared.errors.LateDeclareError.{LateDeclareError}
+use Rattle.stm_events.specs.declared.errors.LateDeclareError.TheVariants as late
 use Rattle.stm_events.specs.declared.errors.SubmitError.{SubmitError}
 use Rattle.stm_events.specs.declared.errors.SubmitError.TheVariants as submit
 use Rattle.stm_desk.specs.declared.errors.AtomicError.{AtomicError}
@@ -19,13 +22,13 @@ use Rattle.stm_events.specs.declared.errors.CancelError.TheVariants as cancel
 use Rattle.stm_store.specs.declared.cell.Cell.{Cell}
 use Rattle.stm_machine.specs.declared.checkpoint.CheckpointBlock.{CheckpointBlock}
 use Rattle.stm_machine.specs.Checkpoints.{CheckpointView}
-use Rattle.stm_history.specs.HistoryText.{variable_lines, event_lines, cell_lines, block_line, block_lines, cells_text, text_before, start_text, history_text}
+use Rattle.stm_history.specs.HistoryText.{variable_lines, event_lines, cell_lines_from, cell_lines, block_line, block_lines, cells_text, text_before, start_text, history_text}
 use Rattle.stm_history.specs.Starts.{Start}
 use Rattle.stm_event_lines.specs.CheckpointLines.{cell_line, checkpoint_header_line}
 use Rattle.stm_event_lines.specs.Lines.{event_line, header_line, variable_line}
 use Rattle.stm_blocks.specs.declared.refusal.Refusal.{Refusal}
 use Rattle.stm_blocks.specs.declared.refusal.Refusal.TheVariants.{Parsing, Typing, Unknown, Declaring}
-use Rattle.stm_commands.specs.Refusals.{refused, refused_at, refused_variable, refusal_text, submit_error_text, atomic_error_text, deliver_error_text, finish_error_text, cancel_error_text}
+use Rattle.stm_commands.specs.Refusals.{refused, refused_at, refused_variable, refusal_text, late_declare_error_text, submit_error_text, atomic_error_text, deliver_error_text, finish_error_text, cancel_error_text}
 use Rattle.stm_blocks.specs.OutOfMemory.{IsOutOfMemory}
 use Rattle.stm_run.specs.Laws.{EndsALine}
 
@@ -62,6 +65,13 @@ refusal_ends (Declaring declare.Twice) t = refused_ends (codes "Twice")
 refusal_ends (Declaring declare.TypeOfValue) t = refused_ends (codes "TypeOfValue")
 refusal_ends (Declaring declare.TableFull) t = refused_ends (codes "TableFull")
 refusal_ends (Declaring declare.NoMemory) t = absurd (t refl)
+
+pub late_declare_error_ends : (e : LateDeclareError) → e ≢ late.NoMemory → EndsALine (late_declare_error_text e)
+late_declare_error_ends late.Twice h = refused_ends (codes "Twice")
+late_declare_error_ends late.TypeOfValue h = refused_ends (codes "TypeOfValue")
+late_declare_error_ends late.HistoryFull h = refused_ends (codes "HistoryFull")
+late_declare_error_ends late.CellsFull h = refused_ends (codes "CellsFull")
+late_declare_error_ends late.NoMemory h = absurd (h refl)
 
 pub submit_error_ends : (e : SubmitError) → e ≢ submit.NoMemory → EndsALine (submit_error_text e)
 submit_error_ends (submit.Foreign i) h = refused_variable_ends (codes "Foreign") i
@@ -111,10 +121,9 @@ blocks_end : (blocks : List CheckpointBlock) → EndsALine (10 ∷ block_lines b
 blocks_end [] = ([], refl)
 blocks_end (b ∷ bs) = behind (10 ∷ block_line b) (10 ∷ block_lines bs) (blocks_end bs)
 
-cells_end : (table : List Declared) (cells : List Cell) → EndsALine (10 ∷ cell_lines table cells)
-cells_end table [] = ([], refl)
-cells_end [] (c ∷ cs) = behind (10 ∷ cell_line None c) (10 ∷ cell_lines [] cs) (cells_end [] cs)
-cells_end (d ∷ ds) (c ∷ cs) = behind (10 ∷ cell_line (Some d.name) c) (10 ∷ cell_lines ds cs) (cells_end ds cs)
+cells_end : (i : ℕ) (names : List Named) (cells : List Cell) → EndsALine (10 ∷ cell_lines_from i names cells)
+cells_end i names [] = ([], refl)
+cells_end i names (c ∷ cs) = behind (10 ∷ cell_line (name_numbered i names) c) (10 ∷ cell_lines_from (i + 1) names cs) (cells_end (i + 1) names cs)
 
 -- lines of events behind a line feed
 events_end : (history : List Event) → EndsALine (10 ∷ event_lines history)
@@ -130,8 +139,8 @@ joined text lines e more =
 before_end : (format : ℕ) (table : List Declared) (o : Option CheckpointView) → EndsALine (text_before format table o)
 before_end format table None = behind (header_line format (length table)) (10 ∷ variable_lines table) (variables_end table)
 before_end format table (Some c) =
-    joined (cells_text c.next (length c.store) (length c.blocks) table c.store) (block_lines c.blocks)
-    (behind (checkpoint_header_line c.next (length c.store) (length c.blocks)) (10 ∷ cell_lines table c.store) (cells_end table c.store)) (blocks_end c.blocks)
+    joined (cells_text format c.next (length c.store) (length c.blocks) c.names c.store) (block_lines c.blocks)
+    (behind (checkpoint_header_line format c.next (length c.store) (length c.blocks)) (10 ∷ cell_lines c.names c.store) (cells_end 0 c.names c.store)) (blocks_end c.blocks)
 
 pub history_ends : (start : Start) (history : List Event) → EndsALine (history_text start history)
 history_ends start history = joined (start_text start) (event_lines history) (before_end start.format start.table start.checkpoint) (events_end history)

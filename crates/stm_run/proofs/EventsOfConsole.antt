@@ -11,18 +11,20 @@ use Rattle.stm_terms.specs.Verdict.{verdict}
 use Rattle.stm_terms.specs.declared.verdicts.Verdict.{Verdict}
 use Rattle.stm_parse.specs.declared.fault.ParseFault.{ParseFault}
 use Rattle.stm_parse.specs.ParseFunction.{parsed_block}
-use Rattle.stm_check.specs.CheckFunction.{checked, table_kinds}
+use Rattle.stm_check.specs.CheckFunction.{checked}
 use Rattle.stm_check.specs.TypedBlock.{Block}
 use Rattle.stm_check.specs.declared.fault.TypeFault.{TypeFault}
+use Rattle.stm_store.specs.Naming.{Named, known_kinds}
 use Rattle.stm_store.specs.Tables.{Declared}
 use Rattle.stm_queue.specs.Queue.{is_out}
 use Rattle.stm_events.specs.declared.errors.CancelError.{CancelError}
 use Rattle.stm_events.specs.declared.errors.DeliverError.{DeliverError}
 use Rattle.stm_events.specs.declared.errors.FinishError.{FinishError}
+use Rattle.stm_events.specs.declared.errors.LateDeclareError.{LateDeclareError}
 use Rattle.stm_events.specs.declared.errors.SubmitError.{SubmitError}
 use Rattle.stm_events.specs.declared.event.Event.{Event}
 use Rattle.stm_events.specs.declared.event.What.{What}
-use Rattle.stm_events.specs.declared.event.What.TheVariants.{Submitted, Installed, Finished, Cancelled}
+use Rattle.stm_events.specs.declared.event.What.TheVariants.{Submitted, Installed, Finished, Cancelled, Declared as DeclaredLate}
 use Rattle.stm_events.specs.SlowDesk.{Waiter, Slow, verdict_on, is_blocks, find_waiter, without_waiter, delivered as delivered_to, after_writes, with_delivery, after, state_from, waking}
 use Rattle.std.specs.Prelude.{nat_eq}
 use Rattle.stm_events.proofs.Folds.{state-append}
@@ -32,34 +34,36 @@ use Rattle.stm_machine.specs.Machine.{event}
 use Rattle.stm_machine.specs.Checkpoints.{CheckpointView, waiter_of, block_of_waiter, checkpoint_of, start_of}
 use Rattle.stm_machine.specs.declared.checkpoint.CheckpointBlock.{CheckpointBlock}
 use Rattle.stm_machine.specs.JobsHandedOut.{sent}
+use Rattle.stm_event_lines.proofs.CheckedBlocks.{checked_blocks_stay}
 use Rattle.stm_event_lines.specs.WholeBlocks.{BlockFault, NotParsed, NotTyped, given_type, block_if_typed, block_if_parsed, checked_block}
 use Rattle.stm_events.specs.SlowAtomically.{install_at_once}
 use Rattle.stm_desk.specs.declared.errors.AtomicError.{AtomicError}
-use Rattle.stm_desk.specs.Refusals.{submit_refusal, atomic_refusal, finish_refusal, cancel_refusal}
+use Rattle.stm_desk.specs.Refusals.{submit_refusal, declare_refusal, atomic_refusal, finish_refusal, cancel_refusal}
 use Rattle.stm_desk.specs.DeskView.{DeskView, start_state, state_of, with_event}
 use Rattle.stm_desk.specs.Settling.{slow_run, requeued_all, with_whats}
 use Rattle.stm_blocks.specs.declared.refusal.Refusal.{Refusal}
 use Rattle.stm_blocks.specs.CompiledBlock.{block_or_refusal, compiled_block}
-use Rattle.stm_blocks.specs.DeclaredVariable.{variable_of}
+use Rattle.stm_blocks.specs.DeclaredVariable.{variable_of, late_variable_of}
 use Rattle.stm_lines.specs.NumberArgument.{number_argument}
 use Rattle.stm_lines.specs.LineClass.{LineClass, TooLong, Silent, NotAscii, Words, line_class}
 use Rattle.stm_commands.specs.Arguments.{argument_refused}
 use Rattle.stm_commands.specs.Atomically.{atomically_block_step, atomically_text_step, atomically_step}
 use Rattle.stm_commands.specs.Blocks.{submit_block_step, submit_text_step, submit_step}
 use Rattle.stm_commands.specs.Checkpointing.{are_tickets_full, begun_anew, checkpoint_line, checkpoint_now, checkpoint_step, makes_checkpoint}
+use Rattle.stm_commands.specs.Declaring.{declare_variable_step, declare_text_step, declare_step}
 use Rattle.stm_commands.specs.Endings.{finish_verdict_step, finish_waiter_step, finish_ticket_step, finish_step, cancel_ticket_step, cancel_step, settled_line, drained_line, run_desk_step, settle_desk_step, settle_step, drain_desk_step, drain_step}
 use Rattle.stm_commands.specs.Evaluation.{DeliveredSoFar, delivered_by, delivered_next, delivered_all, all_queued, eval_desk_step, eval_step}
 use Rattle.stm_commands.specs.Jobs.{max_jobs, taken, with_jobs, jobs_of, jobs_line, take_jobs_step, take_step, delivery_refusal, installed, delivery_step, job_at, deliver_job_step, deliver_step, queued_line, handed_back, handback_ticket_step, handback_step}
-use Rattle.stm_commands.specs.OpenDesk.{HandedOut, OpenDesk, on_desk}
+use Rattle.stm_commands.specs.OpenDesk.{HandedOut, OpenDesk, known, on_desk}
 use Rattle.stm_commands.specs.Refusals.{refused}
 use Rattle.stm_run.specs.declared.command.Command.{Command}
-use Rattle.stm_run.specs.declared.command.Command.TheVariants.{Tvar, Submit, Atomically, Take, Deliver, Handback, Eval, Finish, Cancel, Settle, Drain, Checkpoint}
+use Rattle.stm_run.specs.declared.command.Command.TheVariants.{Tvar, Declare, Submit, Atomically, Take, Deliver, Handback, Eval, Finish, Cancel, Settle, Drain, Checkpoint}
 use Rattle.stm_run.specs.declared.console.Console.{Console}
 use Rattle.stm_run.specs.declared.console.Console.TheVariants.{Declaring, Open}
 use Rattle.stm_run.specs.Console.{command_named, state_after, initial_console, desk_step, on_console, command_step, word_step, class_step, step}
 use Rattle.stm_run.specs.ConsoleState.{present_desk, table_of, checkpoint_of_console, events_of, with_checkpoint}
-use Rattle.stm_run.specs.Declaring.{declare_step, tvar_step}
-use Rattle.stm_run.specs.Fitting.{IsOfText, AreOfConsole, IsOfConsole, EventsAreOfConsole, AreOfTheirTexts, WaitAsTheirTexts, WaitingStayOfText, VariablesFit, VariablesFitLines, VariablesStayFit}
+use Rattle.stm_run.specs.Declaring.{tvar_text_step, tvar_step}
+use Rattle.stm_run.specs.Fitting.{IsOfText, AreOfConsole, IsOfConsole, EventsAreOfConsole, AreOfTheirTexts, WaitersAreOfText, WaitAsTheirTexts, WaitingStayOfText, VariablesFit, VariablesFitLines, VariablesStayFit}
 use Rattle.stm_run.specs.Growing.{Grows, ConsolesGrow}
 use Rattle.stm_run.specs.Laws.{state_after_lines}
 use Rattle.stm_run.specs.LineCheckpoints.{command_checkpoints, word_checkpoints, class_checkpoints, line_checkpoints}
@@ -71,20 +75,20 @@ use Rattle.stm_run.proofs.ArgumentCases.{either_has, number_has, nothing_has}
 use Rattle.std.specs.Prelude.{codes}
 
 -- ---- the block of a text has that text
-typed_text : (table : List Declared) (text : List ℕ) (block : Block) (o : Result (Act × ActionType) TypeFault) → block_if_typed table text o ≡ Ok block → block.text ≡ text
-typed_text table text block (Err f) e = cc
-typed_text table text block (Ok p) e =
-    let made : Block = record { tree = p.0; text = text; result_type = given_type p.1; uses = uses_of (table_kinds table) p.0 } in
+typed_text : (known : List Named) (text : List ℕ) (block : Block) (o : Result (Act × ActionType) TypeFault) → block_if_typed known text o ≡ Ok block → block.text ≡ text
+typed_text known text block (Err f) e = cc
+typed_text known text block (Ok p) e =
+    let made : Block = record { tree = p.0; text = text; result_type = given_type p.1; uses = uses_of (known_kinds known) p.0 } in
     let q : made ≡ block = cc in
     ap (λ (b : Block). b.text) (sym q)
 
-parsed_text : (table : List Declared) (text : List ℕ) (block : Block) (o : Result raw.RawAct ParseFault) → block_if_parsed table text o ≡ Ok block → block.text ≡ text
-parsed_text table text block (Err f) e = cc
-parsed_text table text block (Ok tree) e = typed_text table text block (checked table text [] tree) e
+parsed_text : (known : List Named) (text : List ℕ) (block : Block) (o : Result raw.RawAct ParseFault) → block_if_parsed known text o ≡ Ok block → block.text ≡ text
+parsed_text known text block (Err f) e = cc
+parsed_text known text block (Ok tree) e = typed_text known text block (checked known text [] tree) e
 
-checked_text : (table : List Declared) (text : List ℕ) (block : Block) → checked_block table text ≡ Ok block → block.text ≡ text
+checked_text : (known : List Named) (text : List ℕ) (block : Block) → checked_block known text ≡ Ok block → block.text ≡ text
 unfolding checked_block
-checked_text table text block e = parsed_text table text block (parsed_block text) e
+checked_text known text block e = parsed_text known text block (parsed_block text) e
 
 abbrev as_ok : Block → Result Block BlockFault
 as_ok b = Ok b
@@ -94,19 +98,23 @@ checked_by block (Ok b) e = let q : b ≡ block = cc in ap as_ok q
 checked_by block (Err (NotParsed x)) e = cc
 checked_by block (Err (NotTyped x)) e = cc
 
-compiled_of : (table : List Declared) (text : List ℕ) (block : Block) → compiled_block table text ≡ Ok block → checked_block table text ≡ Ok block
+compiled_of : (known : List Named) (text : List ℕ) (block : Block) → compiled_block known text ≡ Ok block → checked_block known text ≡ Ok block
 unfolding compiled_block
-compiled_of table text block e = checked_by block (checked_block table text) e
+compiled_of known text block e = checked_by block (checked_block known text) e
 
-of_text : (table : List Declared) (text : List ℕ) (block : Block) → compiled_block table text ≡ Ok block → checked_block table block.text ≡ Ok block
-of_text table text block e =
-    let c = compiled_of table text block e in
-    subst (λ (t : List ℕ). checked_block table t ≡ Ok block) (sym (checked_text table text block c)) c
+of_text : (known : List Named) (text : List ℕ) (block : Block) → compiled_block known text ≡ Ok block → checked_block known block.text ≡ Ok block
+of_text known text block e =
+    let c = compiled_of known text block e in
+    subst (λ (t : List ℕ). checked_block known t ≡ Ok block) (sym (checked_text known text block c)) c
+
+-- and stays its block if more names are known
+later_text : (few more : List Named) (block : Block) → checked_block few block.text ≡ Ok block → checked_block (few ++ more) block.text ≡ Ok block
+later_text few more block e = checked_blocks_stay few more block.text block e
 
 -- ---- one event more
-event_more : (table : List Declared) (es : List Event) (what : What) → AreOfConsole table es → IsOfText table what → AreOfConsole table (es ++ event 0 what ∷ [])
-event_more table [] what h k = (refl, k, tt)
-event_more table (e ∷ es) what h k = (h.0, h.1, event_more table es what h.2 k)
+event_more : (s : Slow) (es : List Event) (what : What) → AreOfConsole s es → IsOfText (state_from s es).names what → AreOfConsole s (es ++ event 0 what ∷ [])
+event_more s [] what h k = (refl, k, tt)
+event_more s (e ∷ es) what h k = (h.0, h.1, event_more (after s e.what) es what h.2 k)
 
 -- The table is this one, the history begins from this checkpoint, and the events came after these, each of the console.
 pub record Added
@@ -116,25 +124,27 @@ pub record Added
   pub same_start : start ≡ checkpoint
   pub added : List Event
   pub events : history ≡ before ++ added
-  pub of_console : AreOfConsole table added
+  pub of_console : AreOfConsole (state_from (start_of table checkpoint) before) added
 
 -- ---- settling
--- nothing is submitted
+-- nothing is submitted or declared
 abbrev IsQuiet : What → Type 0
 IsQuiet (Submitted ticket block) = ⊥
 IsQuiet (Installed ticket v) = Unit {0}
 IsQuiet (Finished ticket v first_new stale) = Unit {0}
 IsQuiet (Cancelled ticket) = Unit {0}
+IsQuiet (DeclaredLate name kind value) = ⊥
 
 abbrev AreQuiet : List What → Type 0
 AreQuiet [] = Unit {0}
 AreQuiet (x ∷ xs) = IsQuiet x × AreQuiet xs
 
-quiet_text : (table : List Declared) (what : What) → IsQuiet what → IsOfText table what
-quiet_text table (Submitted ticket block) q = absurd q
-quiet_text table (Installed ticket v) q = tt
-quiet_text table (Finished ticket v first_new stale) q = tt
-quiet_text table (Cancelled ticket) q = tt
+quiet_text : (known : List Named) (what : What) → IsQuiet what → IsOfText known what
+quiet_text known (Submitted ticket block) q = absurd q
+quiet_text known (Installed ticket v) q = tt
+quiet_text known (Finished ticket v first_new stale) q = tt
+quiet_text known (Cancelled ticket) q = tt
+quiet_text known (DeclaredLate name kind value) q = absurd q
 
 installing_quiet : (t : ℕ) (o : Option Verdict) → IfSome (installing t o) IsQuiet
 installing_quiet t None = tt
@@ -187,20 +197,39 @@ module _ (table : List Declared) (checkpoint : Option CheckpointView) (before : 
   abbrev Holds : DeskView → Type 0
   Holds d = Added table checkpoint before d.table d.checkpoint d.history
 
-  more : (d : DeskView) (what : What) → Holds d → IsOfText d.table what → Holds (with_event d 0 what)
+  -- the state after the events before
+  abbrev first : Slow
+  first = state_from (start_of table checkpoint) before
+
+  here : (d : DeskView) (k : Holds d) → state_of d ≡ state_from first k.added
+  here d k =
+      ap (λ (t : List Declared). state_from (start_of t d.checkpoint) d.history) k.same_table
+      ∙ ap (λ (o : Option CheckpointView). state_from (start_of table o) d.history) k.same_start
+      ∙ ap (state_from (start_of table checkpoint)) k.events
+      ∙ state-append (start_of table checkpoint) before k.added
+
+  more : (d : DeskView) (what : What) → Holds d → IsOfText (state_of d).names what → Holds (with_event d 0 what)
   more d what k f = record {
     same_table = k.same_table;
     same_start = k.same_start;
     added = k.added ++ event 0 what ∷ [];
     events = ap (λ (es : List Event). es ++ event 0 what ∷ []) k.events ∙ append_assoc before k.added (event 0 what ∷ []);
-    of_console = event_more table k.added what k.of_console (subst (λ (t : List Declared). IsOfText t what) k.same_table f);
+    of_console = event_more first k.added what k.of_console (subst (λ (s : Slow). IsOfText s.names what) (here d k) f);
   }
 
-  submitted : (d : DeskView) (block : Block) (o : Option SubmitError) → checked_block d.table block.text ≡ Ok block → Holds d → Holds (submit_block_step d block o).0
+  declared : (d : DeskView) (v : Declared) (o : Option LateDeclareError) → IsOfText (state_of d).names (DeclaredLate v.name v.kind v.value) → Holds d → Holds (declare_variable_step d v o).0
+  declared d v None f k = more d (DeclaredLate v.name v.kind v.value) k f
+  declared d v (Some e) f k = k
+
+  declares : (d : DeskView) (text : List ℕ) (r : Result Declared Refusal) → late_variable_of (state_of d).names text ≡ r → Holds d → Holds (declare_text_step d r).0
+  declares d text (Ok v) e k = declared d v (declare_refusal d v.name v.kind v.value) (text, e) k
+  declares d text (Err x) e k = k
+
+  submitted : (d : DeskView) (block : Block) (o : Option SubmitError) → checked_block (state_of d).names block.text ≡ Ok block → Holds d → Holds (submit_block_step d block o).0
   submitted d block None f k = more d (Submitted (state_of d).next block) k f
   submitted d block (Some e) f k = k
 
-  submits : (d : DeskView) (r : Result Block Refusal) → ((b : Block) → r ≡ Ok b → checked_block d.table b.text ≡ Ok b) → Holds d → Holds (submit_text_step d r).0
+  submits : (d : DeskView) (r : Result Block Refusal) → ((b : Block) → r ≡ Ok b → checked_block (state_of d).names b.text ≡ Ok b) → Holds d → Holds (submit_text_step d r).0
   submits d (Ok b) h k = submitted d b (submit_refusal d b) (h b refl) k
   submits d (Err e) h k = k
 
@@ -259,16 +288,16 @@ module _ (table : List Declared) (checkpoint : Option CheckpointView) (before : 
 
   whats_more : (d : DeskView) (xs : List What) → AreQuiet xs → Holds d → Holds (with_whats d 0 xs)
   whats_more d [] q k = k
-  whats_more d (x ∷ xs) q k = whats_more (with_event d 0 x) xs q.1 (more d x k (quiet_text d.table x q.0))
+  whats_more d (x ∷ xs) q k = whats_more (with_event d 0 x) xs q.1 (more d x k (quiet_text (state_of d).names x q.0))
 
-  ran : (d : DeskView) (block : Block) (o : Option AtomicError) → checked_block d.table block.text ≡ Ok block → Holds d → Holds (atomically_block_step d block o).0
+  ran : (d : DeskView) (block : Block) (o : Option AtomicError) → checked_block (state_of d).names block.text ≡ Ok block → Holds d → Holds (atomically_block_step d block o).0
   ran d block None f k =
       let s = state_of d in
       let what = Submitted s.next block in
       whats_more (with_event d 0 what) (install_at_once (after s what) s.next (verdict_on s.store block)) (install_quiet (after s what) s.next (verdict_on s.store block)) (more d what k f)
   ran d block (Some e) f k = k
 
-  atomically_runs : (d : DeskView) (r : Result Block Refusal) → ((b : Block) → r ≡ Ok b → checked_block d.table b.text ≡ Ok b) → Holds d → Holds (atomically_text_step d r).0
+  atomically_runs : (d : DeskView) (r : Result Block Refusal) → ((b : Block) → r ≡ Ok b → checked_block (state_of d).names b.text ≡ Ok b) → Holds d → Holds (atomically_text_step d r).0
   atomically_runs d (Ok b) h k = ran d b (atomic_refusal d b) (h b refl) k
   atomically_runs d (Err e) h k = k
 
@@ -280,9 +309,10 @@ module _ (table : List Declared) (checkpoint : Option CheckpointView) (before : 
   After p = Holds p.0.desk
 
   desk_after : (d : OpenDesk) → Holds d.desk → (c : Command) → c ≢ Checkpoint → (argument : List ℕ) → After (desk_step d c argument)
-  unfolding submit_step atomically_step take_step deliver_step handback_step eval_step finish_step cancel_step settle_step drain_step
-  desk_after d k Submit n argument = submits d.desk (compiled_block d.desk.table argument) (λ b e. of_text d.desk.table argument b e) k
-  desk_after d k Atomically n argument = atomically_runs d.desk (compiled_block d.desk.table argument) (λ b e. of_text d.desk.table argument b e) k
+  unfolding submit_step declare_step atomically_step take_step deliver_step handback_step eval_step finish_step cancel_step settle_step drain_step
+  desk_after d k Submit n argument = submits d.desk (compiled_block (known d) argument) (λ b e. of_text (known d) argument b e) k
+  desk_after d k Declare n argument = declares d.desk argument (late_variable_of (known d) argument) refl k
+  desk_after d k Atomically n argument = atomically_runs d.desk (compiled_block (known d) argument) (λ b e. of_text (known d) argument b e) k
   desk_after d k Take n argument = number_has After (take_jobs_step d) (d, argument_refused) (number_argument argument) (λ n. takes d n k) k
   desk_after d k Deliver n argument =
       number_has After (λ n. on_desk d (deliver_job_step d.desk (job_at n d.jobs))) (d, argument_refused) (number_argument argument) (λ n. delivers d.desk (job_at n d.jobs) k) k
@@ -311,40 +341,56 @@ opens : (s : Console) (d : OpenDesk) → Added (table_of s) (checkpoint_of_conso
 opens s d a = record {
   added = a.added;
   events = a.events;
-  of_console = subst (λ (t : List Declared). AreOfConsole t a.added) (sym a.same_table) a.of_console;
+  of_console =
+      subst (λ (o : Option CheckpointView). AreOfConsole (state_from (start_of d.desk.table o) (events_of s)) a.added) (sym a.same_start)
+      (subst (λ (t : List Declared). AreOfConsole (state_from (start_of t (checkpoint_of_console s)) (events_of s)) a.added) (sym a.same_table) a.of_console);
   same_start = a.same_start;
   opened = λ e. (refl, a.same_table);
 }
 
-of_append : (table : List Declared) (xs ys : List Event) → AreOfConsole table xs → AreOfConsole table ys → AreOfConsole table (xs ++ ys)
-of_append table [] ys h k = k
-of_append table (x ∷ xs) ys h k = (h.0, h.1, of_append table xs ys h.2 k)
+of_append : (s : Slow) (xs ys : List Event) → AreOfConsole s xs → AreOfConsole (state_from s xs) ys → AreOfConsole s (xs ++ ys)
+of_append s [] ys h k = k
+of_append s (x ∷ xs) ys h k = (h.0, h.1, of_append (after s x.what) xs ys h.2 k)
 
-of_none : (table : List Declared) (xs ys : List Event) → [] ≡ xs ++ ys → AreOfConsole table ys
-of_none table [] [] e = tt
-of_none table [] (y ∷ ys) e = absurd (cc e)
-of_none table (x ∷ xs) ys e = absurd (cc e)
+of_none : (s : Slow) (xs ys : List Event) → [] ≡ xs ++ ys → AreOfConsole s ys
+of_none s [] [] e = tt
+of_none s [] (y ∷ ys) e = absurd (cc e)
+of_none s (x ∷ xs) ys e = absurd (cc e)
+
+-- the state that a console's history begins from
+abbrev first_of : Console → Slow
+first_of s = start_state (present_desk s).desk
+
+-- it stays once the desk is open
+same_first : (d : OpenDesk) (t : Console) → Grows (Open d) t → first_of t ≡ start_state d.desk
+same_first d t g =
+    ap (λ (x : List Declared). start_of x (checkpoint_of_console t)) (g.opened refl).1 ∙ ap (start_of d.desk.table) g.same_start
 
 -- what was added first is of the console over the last table, too: before the desk is open there is no event
-added_first : (s t u : Console) (g : Grows s t) → Grows t u → AreOfConsole (table_of u) g.added
-added_first s (Open d) u g h = subst (λ (x : List Declared). AreOfConsole x g.added) (sym (h.opened refl).1) g.of_console
-added_first s (Declaring table limit) u g h = of_none (table_of u) (events_of s) g.added g.events
+added_first : (s t u : Console) (g : Grows s t) → Grows t u → AreOfConsole (state_from (first_of u) (events_of s)) g.added
+added_first s (Open d) u g h = subst (λ (x : Slow). AreOfConsole (state_from x (events_of s)) g.added) (sym (same_first d u h)) g.of_console
+added_first s (Declaring table limit) u g h = of_none (state_from (first_of u) (events_of s)) (events_of s) g.added g.events
+
+-- and what came after it goes on from there
+added_then : (s t u : Console) (g : Grows s t) (h : Grows t u) → AreOfConsole (state_from (state_from (first_of u) (events_of s)) g.added) h.added
+added_then s t u g h =
+    subst (λ (x : Slow). AreOfConsole x h.added) (ap (state_from (first_of u)) g.events ∙ state-append (first_of u) (events_of s) g.added) h.of_console
 
 pub grows_trans : (s t u : Console) → Grows s t → Grows t u → Grows s u
 grows_trans s t u g h = record {
   added = g.added ++ h.added;
   events = h.events ∙ ap (λ (es : List Event). es ++ h.added) g.events ∙ append_assoc (events_of s) g.added h.added;
-  of_console = of_append (table_of u) g.added h.added (added_first s t u g h) h.of_console;
+  of_console = of_append (state_from (first_of u) (events_of s)) g.added h.added (added_first s t u g h) (added_then s t u g h);
   same_start = h.same_start ∙ g.same_start;
   opened = λ e. let a = g.opened e in let b = h.opened a.0 in (b.0, b.1 ∙ a.1);
 }
 
-declare_grows : (table : List Declared) (limit : ℕ) (r : Result Declared Refusal) → Grows (Declaring table limit) (declare_step table limit r).0
-declare_grows table limit (Ok d) = record { added = []; events = refl; of_console = tt; same_start = refl; opened = λ e. absurd (cc e) }
-declare_grows table limit (Err e) = grows_not (Declaring table limit)
+tvar_text_grows : (table : List Declared) (limit : ℕ) (r : Result Declared Refusal) → Grows (Declaring table limit) (tvar_text_step table limit r).0
+tvar_text_grows table limit (Ok d) = record { added = []; events = refl; of_console = tt; same_start = refl; opened = λ e. absurd (cc e) }
+tvar_text_grows table limit (Err e) = grows_not (Declaring table limit)
 
 tvar_grows : (s : Console) (argument : List ℕ) → Grows s (tvar_step s argument).0
-tvar_grows (Declaring table limit) argument = declare_grows table limit (variable_of table argument)
+tvar_grows (Declaring table limit) argument = tvar_text_grows table limit (variable_of table argument)
 tvar_grows (Open d) argument = grows_not (Open d)
 
 -- ---- or makes a checkpoint
@@ -400,76 +446,69 @@ unfolding step line_checkpoints
 consoles_grow s line = class_moves s (line_class line)
 
 -- ---- what waits is of its text
-texts_push : (table : List Declared) (ws : List Waiter) (w : Waiter) → AreOfTheirTexts table ws → checked_block table w.block.text ≡ Ok w.block → AreOfTheirTexts table (ws ++ w ∷ [])
-texts_push table [] w h e = (e, tt)
-texts_push table (x ∷ ws) w h e = (h.0, texts_push table ws w h.1 e)
+texts_push : (known : List Named) (ws : List Waiter) (w : Waiter) → AreOfTheirTexts known ws → checked_block known w.block.text ≡ Ok w.block → AreOfTheirTexts known (ws ++ w ∷ [])
+texts_push known [] w h e = (e, tt)
+texts_push known (x ∷ ws) w h e = (h.0, texts_push known ws w h.1 e)
 
-texts_delivered : (table : List Declared) (t : ℕ) (store : List Cell) (ws : List Waiter) → AreOfTheirTexts table ws → AreOfTheirTexts table (delivered_to t store ws)
-texts_delivered table t store [] h = tt
-texts_delivered table t store (w ∷ ws) h =
-    either_has (AreOfTheirTexts table) (nat_eq t w.ticket) (with_delivery store w ∷ ws) (w ∷ delivered_to t store ws) h (h.0, texts_delivered table t store ws h.1)
+texts_delivered : (known : List Named) (t : ℕ) (store : List Cell) (ws : List Waiter) → AreOfTheirTexts known ws → AreOfTheirTexts known (delivered_to t store ws)
+texts_delivered known t store [] h = tt
+texts_delivered known t store (w ∷ ws) h =
+    either_has (AreOfTheirTexts known) (nat_eq t w.ticket) (with_delivery store w ∷ ws) (w ∷ delivered_to t store ws) h (h.0, texts_delivered known t store ws h.1)
 
-texts_without : (table : List Declared) (t : ℕ) (ws : List Waiter) → AreOfTheirTexts table ws → AreOfTheirTexts table (without_waiter t ws)
-texts_without table t [] h = tt
-texts_without table t (w ∷ ws) h = either_has (AreOfTheirTexts table) (nat_eq t w.ticket) ws (w ∷ without_waiter t ws) h.1 (h.0, texts_without table t ws h.1)
+texts_without : (known : List Named) (t : ℕ) (ws : List Waiter) → AreOfTheirTexts known ws → AreOfTheirTexts known (without_waiter t ws)
+texts_without known t [] h = tt
+texts_without known t (w ∷ ws) h = either_has (AreOfTheirTexts known) (nat_eq t w.ticket) ws (w ∷ without_waiter t ws) h.1 (h.0, texts_without known t ws h.1)
 
-texts_marked : (table : List Declared) (woken : List ℕ) (ws : List Waiter) → AreOfTheirTexts table ws → AreOfTheirTexts table (map (after_writes woken) ws)
-texts_marked table woken [] h = tt
-texts_marked table woken (w ∷ ws) h = (h.0, texts_marked table woken ws h.1)
+texts_marked : (known : List Named) (woken : List ℕ) (ws : List Waiter) → AreOfTheirTexts known ws → AreOfTheirTexts known (map (after_writes woken) ws)
+texts_marked known woken [] h = tt
+texts_marked known woken (w ∷ ws) h = (h.0, texts_marked known woken ws h.1)
 
-pub texts_after : (table : List Declared) (s : Slow) (what : What) → IsOfText table what → AreOfTheirTexts table s.waiters → AreOfTheirTexts table (after s what).waiters
-texts_after table s (Submitted t b) o h = texts_push table s.waiters (record { ticket = t; block = b; since = None }) h o
-texts_after table s (Installed t v) o h = texts_delivered table t s.store s.waiters h
-texts_after table s (Finished t v n stale) o h = texts_marked table (waking s.rule s.store v) (without_waiter t s.waiters) (texts_without table t s.waiters h)
-texts_after table s (Cancelled t) o h = texts_without table t s.waiters h
+texts_later : (few more : List Named) (ws : List Waiter) → AreOfTheirTexts few ws → AreOfTheirTexts (few ++ more) ws
+texts_later few more [] h = tt
+texts_later few more (w ∷ ws) h = (later_text few more w.block h.0, texts_later few more ws h.1)
 
-pub texts_from : (table : List Declared) (s : Slow) (es : List Event) → AreOfConsole table es → AreOfTheirTexts table s.waiters → AreOfTheirTexts table (state_from s es).waiters
-texts_from table s [] o h = h
-texts_from table s (e ∷ es) o h = texts_from table (after s e.what) es o.2 (texts_after table s e.what o.1 h)
+pub texts_after : (s : Slow) (what : What) → IsOfText s.names what → WaitersAreOfText s → WaitersAreOfText (after s what)
+texts_after s (Submitted t b) o h = texts_push s.names s.waiters (record { ticket = t; block = b; since = None }) h o
+texts_after s (Installed t v) o h = texts_delivered s.names t s.store s.waiters h
+texts_after s (Finished t v n stale) o h = texts_marked s.names (waking s.rule s.store v) (without_waiter t s.waiters) (texts_without s.names t s.waiters h)
+texts_after s (Cancelled t) o h = texts_without s.names t s.waiters h
+texts_after s (DeclaredLate name kind value) o h = texts_later s.names _ s.waiters h
 
-blocks_of_text : (table : List Declared) (store : List Cell) (next : ℕ) (ws : List Waiter) → AreOfTheirTexts table ws
-    → BlocksAreOfText table (record { store = store; next = next; blocks = map block_of_waiter ws })
-blocks_of_text table store next ws h = blocks ws h
-  where
-    blocks : (ws : List Waiter) → AreOfTheirTexts table ws → AreOfText table (map block_of_waiter ws)
-    blocks [] h = tt
-    blocks (w ∷ ws) h = (h.0, blocks ws h.1)
+pub texts_from : (s : Slow) (es : List Event) → AreOfConsole s es → WaitersAreOfText s → WaitersAreOfText (state_from s es)
+texts_from s [] o h = h
+texts_from s (e ∷ es) o h = texts_from (after s e.what) es o.2 (texts_after s e.what o.1 h)
 
-waiters_of_text : (table : List Declared) (store : List Cell) (bs : List CheckpointBlock) → AreOfText table bs → AreOfTheirTexts table (map (waiter_of store) bs)
-waiters_of_text table store [] h = tt
-waiters_of_text table store (b ∷ bs) h = (h.0, waiters_of_text table store bs h.1)
+blocks_of_text : (known : List Named) (ws : List Waiter) → AreOfTheirTexts known ws → AreOfText known (map block_of_waiter ws)
+blocks_of_text known [] h = tt
+blocks_of_text known (w ∷ ws) h = (h.0, blocks_of_text known ws h.1)
+
+waiters_of_text : (known : List Named) (store : List Cell) (bs : List CheckpointBlock) → AreOfText known bs → AreOfTheirTexts known (map (waiter_of store) bs)
+waiters_of_text known store [] h = tt
+waiters_of_text known store (b ∷ bs) h = (h.0, waiters_of_text known store bs h.1)
 
 -- a checkpoint has the blocks that wait
-pub checkpoint_texts : (s : Console) → WaitAsTheirTexts s → IfSome (checkpoint_of_console (with_checkpoint s)) (BlocksAreOfText (table_of s))
+pub checkpoint_texts : (s : Console) → WaitAsTheirTexts s → IfSome (checkpoint_of_console (with_checkpoint s)) BlocksAreOfText
 unfolding checkpoint_of
-checkpoint_texts s h = let x = state_of (present_desk s).desk in blocks_of_text (table_of s) x.store x.next x.waiters h
+checkpoint_texts s h = let x = state_of (present_desk s).desk in blocks_of_text x.names x.waiters h
+
+pub start_texts : (table : List Declared) (o : Option CheckpointView) → IfSome o BlocksAreOfText → WaitersAreOfText (start_of table o)
+start_texts table None h = tt
+start_texts table (Some c) h = waiters_of_text c.names c.store c.blocks h
 
 pub with_checkpoint_texts : (s : Console) → WaitAsTheirTexts s → WaitAsTheirTexts (with_checkpoint s)
-unfolding checkpoint_of
-with_checkpoint_texts s h = let x = state_of (present_desk s).desk in again x.waiters h
-  where
-    again : (ws : List Waiter) → AreOfTheirTexts (table_of s) ws → AreOfTheirTexts (table_of s) (map (waiter_of (state_of (present_desk s).desk).store) (map block_of_waiter ws))
-    again [] k = tt
-    again (w ∷ ws) k = (k.0, again ws k.1)
-
-pub start_texts : (table : List Declared) (o : Option CheckpointView) → IfSome o (BlocksAreOfText table) → AreOfTheirTexts table (start_of table o).waiters
-start_texts table None h = tt
-start_texts table (Some c) h = waiters_of_text table c.store c.blocks h
+with_checkpoint_texts s h = start_texts (table_of s) (checkpoint_of_console (with_checkpoint s)) (checkpoint_texts s h)
 
 -- ---- so it is after every line
--- what a console's desk has is of its table; while variables are declared it has nothing
+-- what a console's desk has is of its names; while variables are declared it has nothing
 grown_texts : (s t : Console) → Grows s t → WaitAsTheirTexts s → WaitAsTheirTexts t
 grown_texts s t g h =
-    let first = start_of (table_of t) (checkpoint_of_console t) in
-    subst (λ (es : List Event). AreOfTheirTexts (table_of t) (state_from first es).waiters) (sym g.events)
-    (subst (λ (x : Slow). AreOfTheirTexts (table_of t) x.waiters) (sym (state-append first (events_of s) g.added))
-    (texts_from (table_of t) (state_from first (events_of s)) g.added g.of_console (before s g h)))
+    subst (λ (es : List Event). WaitersAreOfText (state_from (first_of t) es)) (sym g.events)
+    (subst WaitersAreOfText (sym (state-append (first_of t) (events_of s) g.added))
+    (texts_from (state_from (first_of t) (events_of s)) g.added g.of_console (before s g h)))
   where
-    before : (s : Console) (g : Grows s t) → WaitAsTheirTexts s → AreOfTheirTexts (table_of t) (state_from (start_of (table_of t) (checkpoint_of_console t)) (events_of s)).waiters
-    before (Declaring table limit) g h = subst (λ (o : Option CheckpointView). AreOfTheirTexts (table_of t) (start_of (table_of t) o).waiters) (sym g.same_start) tt
-    before (Open d) g h =
-        subst (λ (o : Option CheckpointView). AreOfTheirTexts (table_of t) (state_from (start_of (table_of t) o) d.desk.history).waiters) (sym g.same_start)
-        (subst (λ (x : List Declared). AreOfTheirTexts x (state_from (start_of x d.desk.checkpoint) d.desk.history).waiters) (sym (g.opened refl).1) h)
+    before : (s : Console) (g : Grows s t) → WaitAsTheirTexts s → WaitersAreOfText (state_from (first_of t) (events_of s))
+    before (Declaring table limit) g h = subst (λ (o : Option CheckpointView). WaitersAreOfText (start_of (table_of t) o)) (sym g.same_start) tt
+    before (Open d) g h = subst (λ (x : Slow). WaitersAreOfText (state_from x d.desk.history)) (sym (same_first d t g)) h
 
 pub moved_texts : (b : Bool) (s t : Console) → MovesTo b s t → WaitAsTheirTexts s → WaitAsTheirTexts t
 moved_texts true s t m h = subst WaitAsTheirTexts (sym m) (with_checkpoint_texts s h)
@@ -486,21 +525,17 @@ abbrev IsOwn : Console → Type 0
 IsOwn s = IsOfConsole (present_desk s).desk
 
 own_waits : (s : Console) → IsOwn s → WaitAsTheirTexts s
-own_waits s h = texts_from (table_of s) (start_state (present_desk s).desk) (events_of s) h.0 (start_texts (table_of s) (checkpoint_of_console s) h.1)
+own_waits s h = texts_from (first_of s) (events_of s) h.0 (start_texts (table_of s) (checkpoint_of_console s) h.1)
 
 grown_own : (s t : Console) → Grows s t → IsOwn s → IsOwn t
 grown_own s t g h = (
-  subst (AreOfConsole (table_of t)) (sym g.events) (of_append (table_of t) (events_of s) g.added (events s g h) g.of_console),
-  subst (λ (o : Option CheckpointView). IfSome o (BlocksAreOfText (table_of t))) (sym g.same_start) (start s g h),
+  subst (AreOfConsole (first_of t)) (sym g.events) (of_append (first_of t) (events_of s) g.added (events s g h) g.of_console),
+  subst (λ (o : Option CheckpointView). IfSome o BlocksAreOfText) (sym g.same_start) h.1,
 )
   where
-    events : (s : Console) → Grows s t → IsOwn s → AreOfConsole (table_of t) (events_of s)
+    events : (s : Console) → Grows s t → IsOwn s → AreOfConsole (first_of t) (events_of s)
     events (Declaring table limit) g h = tt
-    events (Open d) g h = subst (λ (x : List Declared). AreOfConsole x d.desk.history) (sym (g.opened refl).1) h.0
-
-    start : (s : Console) → Grows s t → IsOwn s → IfSome (checkpoint_of_console s) (BlocksAreOfText (table_of t))
-    start (Declaring table limit) g h = tt
-    start (Open d) g h = subst (λ (x : List Declared). IfSome d.desk.checkpoint (BlocksAreOfText x)) (sym (g.opened refl).1) h.1
+    events (Open d) g h = subst (λ (x : Slow). AreOfConsole x d.desk.history) (sym (same_first d t g)) h.0
 
 moved_own : (b : Bool) (s t : Console) → MovesTo b s t → IsOwn s → IsOwn t
 moved_own true s t m h = subst IsOwn (sym m) (tt, checkpoint_texts s (own_waits s h))
@@ -531,13 +566,13 @@ checkpoint_fits d argument h =
     (either_has (λ (p : OpenDesk × List ℕ). VariablesFit p.0.desk.table) (are_tickets_full d) (d, refused (codes "TicketsFull")) (begun_anew d, checkpoint_line (length d.desk.history)) h h) h
 
 module _ (declarations : DeclarationAnswersAreRight) where
-  declare_fits : (table : List Declared) (limit : ℕ) (r : Result Declared Refusal) → VariablesFit table → ((d : Declared) → r ≡ Ok d → MayBeNext table d)
-      → VariablesFit (table_of (declare_step table limit r).0)
-  declare_fits table limit (Ok d) v next = fits_more table d v (next d refl)
-  declare_fits table limit (Err e) v next = v
+  tvar_text_fits : (table : List Declared) (limit : ℕ) (r : Result Declared Refusal) → VariablesFit table → ((d : Declared) → r ≡ Ok d → MayBeNext table d)
+      → VariablesFit (table_of (tvar_text_step table limit r).0)
+  tvar_text_fits table limit (Ok d) v next = fits_more table d v (next d refl)
+  tvar_text_fits table limit (Err e) v next = v
 
   tvar_fits : (s : Console) (argument : List ℕ) → VariablesFit (table_of s) → VariablesFit (table_of (tvar_step s argument).0)
-  tvar_fits (Declaring table limit) argument h = declare_fits table limit (variable_of table argument) h (λ d e. may_be_next declarations table argument d h.0 e)
+  tvar_fits (Declaring table limit) argument h = tvar_text_fits table limit (variable_of table argument) h (λ d e. may_be_next declarations table argument d h.0 e)
   tvar_fits (Open d) argument h = h
 
   command_fits : (s : Console) (c : Command) (argument : List ℕ) → VariablesFit (table_of s) → VariablesFit (table_of (command_step s c argument).0)

@@ -42,7 +42,7 @@ table_low table v = low_from [] table v.1
 pub table_store : (table : List Declared) → VariablesFit table → IsStore (plains (opened table))
 table_store table v = opened_store table v.0 (table_typed table v) (table_low table v)
 
-pub table_sound : (table : List Declared) → VariablesFit table → IsSound table (initial_state Changed table)
+pub table_sound : (table : List Declared) → VariablesFit table → IsSound (initial_state Changed table)
 table_sound table v =
     let store = table_store table v in
-    record { possible = possible_initial Changed table; typed = typed_initial Changed table store.typed; store = store; rule = refl; declared = λ uses c. c }
+    record { possible = possible_initial Changed table; typed = typed_initial Changed table store.typed; store = store; rule = refl }

@@ -1,26 +1,38 @@
 -- An event of the console's client, of its text and with small numbers is in a line, if the values of its verdict are in range.
-use Rattle.std.proofs.Common.{List, [], ◌∷◌, arith}
+use Rattle.std.proofs.Common.{◌≡◌, ℕ, List, [], ◌∷◌, Ok, arith, subst}
+use Rattle.stm_parse.specs.ParseFunction.{DeclarationAnswersAreRight}
+use Rattle.stm_store.specs.Naming.{Named}
 use Rattle.stm_store.specs.Tables.{Declared}
 use Rattle.stm_events.specs.declared.event.Event.{Event}
 use Rattle.stm_events.specs.declared.event.What.{What}
-use Rattle.stm_events.specs.declared.event.What.TheVariants.{Submitted, Installed, Finished, Cancelled}
-use Rattle.stm_event_lines.specs.Fits.{WhatFitsTable}
+use Rattle.stm_events.specs.declared.event.What.TheVariants.{Submitted, Installed, Finished, Cancelled, Declared as DeclaredLate}
+use Rattle.stm_events.specs.SlowDesk.{Slow, after}
+use Rattle.stm_event_lines.specs.Fits.{WhatFitsNames}
+use Rattle.stm_blocks.specs.DeclaredVariable.{late_variable_of}
+use Rattle.stm_desk.specs.DeskView.{start_state}
 use Rattle.stm_run.specs.Console.{initial_console}
 use Rattle.stm_run.specs.ConsoleState.{present_desk}
 use Rattle.stm_run.specs.Laws.{state_after_lines}
-use Rattle.stm_run.specs.Fitting.{IsOfText, AreOfConsole, EventsAreOfConsole, AreNumbersSmall, HaveSmallNumbers, NumbersAreSmall, IsVerdictInRange, AreVerdictsInRange, EventsFitTable, EventsFitLines}
+use Rattle.stm_run.specs.Fitting.{IsOfText, AreOfConsole, EventsAreOfConsole, AreNumbersSmall, HaveSmallNumbers, NumbersAreSmall, IsVerdictInRange, AreVerdictsInRange, EventsFitNames, EventsFitLines}
+use Rattle.stm_run.proofs.DeclaredVariables.{LateOrTold, late_judged, fits_value}
 
-what_fits : (table : List Declared) (what : What) → IsOfText table what → AreNumbersSmall what → IsVerdictInRange what → WhatFitsTable table what
-what_fits table (Submitted ticket block) t n v = (n, t)
-what_fits table (Installed ticket w) t n v = (n, v)
-what_fits table (Finished ticket w first_new stale) t n v = (n.0, v, n.1, n.2)
-what_fits table (Cancelled ticket) t n v = n
+module _ (declarations : DeclarationAnswersAreRight) where
+  variable_told : (known : List Named) (text : List ℕ) (v : Declared) → late_variable_of known text ≡ Ok v → LateOrTold (Ok v)
+  variable_told known text v e = subst LateOrTold e (late_judged declarations known text)
 
-pub all_fit : (table : List Declared) (es : List Event) → AreOfConsole table es → HaveSmallNumbers es → AreVerdictsInRange es → EventsFitTable table es
-all_fit table [] t n v = tt
-all_fit table (e ∷ es) t n v = ((omega (arith, t.0), what_fits table e.what t.1 n.0 v.0), all_fit table es t.2 n.1 v.1)
+  what_fits : (known : List Named) (what : What) → IsOfText known what → AreNumbersSmall what → IsVerdictInRange what → WhatFitsNames known what
+  what_fits known (Submitted ticket block) t n v = (n, t)
+  what_fits known (Installed ticket w) t n v = (n, v)
+  what_fits known (Finished ticket w first_new stale) t n v = (n.0, v, n.1, n.2)
+  what_fits known (Cancelled ticket) t n v = n
+  what_fits known (DeclaredLate name kind value) t n v =
+      let told = variable_told known t.0 (record { name = name; kind = kind; value = value }) t.1 in (told.0, n.0, fits_value value told.1 n.1)
 
-pub events_fit : EventsAreOfConsole → NumbersAreSmall → EventsFitLines
-events_fit of_console small max_events low before verdicts =
-    let d = (present_desk (state_after_lines (initial_console max_events) before)).desk in
-    all_fit d.table d.history (of_console max_events before).0 (small max_events low before) verdicts
+  pub all_fit : (s : Slow) (es : List Event) → AreOfConsole s es → HaveSmallNumbers es → AreVerdictsInRange es → EventsFitNames s es
+  all_fit s [] t n v = tt
+  all_fit s (e ∷ es) t n v = ((omega (arith, t.0), what_fits s.names e.what t.1 n.0 v.0), all_fit (after s e.what) es t.2 n.1 v.1)
+
+  pub events_fit : EventsAreOfConsole → NumbersAreSmall → EventsFitLines
+  events_fit of_console small max_events low before verdicts =
+      let d = (present_desk (state_after_lines (initial_console max_events) before)).desk in
+      all_fit (start_state d) d.history (of_console max_events before).0 (small max_events low before) verdicts

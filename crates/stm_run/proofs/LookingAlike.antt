@@ -45,6 +45,9 @@ same_store b d d' k = ap (λ o. o.store) k.same
 pub same_next : (b : Bool) (d d' : DeskView) → AlikeDesks b d d' → (state_of d).next ≡ (state_of d').next
 same_next b d d' k = ap (λ o. o.next) k.same
 
+pub same_names : (b : Bool) (d d' : DeskView) → AlikeDesks b d d' → (state_of d).names ≡ (state_of d').names
+same_names b d d' k = ap (λ o. o.names) k.same
+
 pub same_waiters : (b : Bool) (d d' : DeskView) → AlikeDesks b d d' → AreAlike (state_of d).waiters (state_of d').waiters
 same_waiters b d d' k = alike_from (state_of d).waiters (state_of d').waiters (ap (λ o. o.waiters) k.same)
 

@@ -7,43 +7,45 @@ use Rattle.stm_check.specs.TypedBlock.{Block}
 use Rattle.stm_eval.specs.Laws.{VerdictIsStable}
 use Rattle.stm_parse.specs.ParseFunction.{BlockAnswersAreRight, DeclarationAnswersAreRight}
 use Rattle.stm_queue.specs.Queue.{is_out, marked, recalled}
+use Rattle.stm_store.specs.Naming.{Named}
 use Rattle.stm_store.specs.Tables.{Declared}
 use Rattle.stm_event_lines.specs.WholeBlocks.{CheckedAreWellTyped}
 use Rattle.stm_events.specs.SlowDesk as slow
-use Rattle.stm_desk.specs.Refusals.{submit_refusal, atomic_refusal, finish_refusal, cancel_refusal}
+use Rattle.stm_desk.specs.Refusals.{submit_refusal, declare_refusal, atomic_refusal, finish_refusal, cancel_refusal}
 use Rattle.stm_machine.specs.Checkpoints.{max_next}
 use Rattle.stm_desk.specs.DeskView.{DeskView, state_of}
 use Rattle.stm_desk.specs.Settling.{requeued_all}
 use Rattle.stm_run.specs.declared.command.Command.{Command}
-use Rattle.stm_run.specs.declared.command.Command.TheVariants.{Tvar, Submit, Atomically, Take, Deliver, Handback, Eval, Finish, Cancel, Settle, Drain, Checkpoint}
+use Rattle.stm_run.specs.declared.command.Command.TheVariants.{Tvar, Declare, Submit, Atomically, Take, Deliver, Handback, Eval, Finish, Cancel, Settle, Drain, Checkpoint}
 use Rattle.stm_run.specs.declared.console.Console.{Console}
 use Rattle.stm_run.specs.declared.console.Console.TheVariants.{Declaring, Open}
 use Rattle.stm_blocks.specs.declared.refusal.Refusal.{Refusal}
 use Rattle.stm_lines.specs.NumberArgument.{number_argument}
 use Rattle.stm_blocks.specs.CompiledBlock.{compiled_block}
-use Rattle.stm_blocks.specs.DeclaredVariable.{variable_of}
+use Rattle.stm_blocks.specs.DeclaredVariable.{variable_of, late_variable_of}
 use Rattle.stm_lines.specs.LineClass.{LineClass, TooLong, Silent, NotAscii, Words, line_class}
 use Rattle.stm_commands.specs.Arguments.{argument_refused}
 use Rattle.stm_commands.specs.Atomically.{atomically_text_step, atomically_step}
 use Rattle.stm_commands.specs.Blocks.{submit_text_step, submit_step}
+use Rattle.stm_commands.specs.Declaring.{declare_text_step, declare_step}
 use Rattle.stm_commands.specs.Checkpointing.{begun_anew, checkpoint_line, checkpoint_now, checkpoint_step}
 use Rattle.stm_events.specs.SlowSettle.{next_what}
 use Rattle.stm_events.specs.SlowDrain.{next_drain}
 use Rattle.stm_commands.specs.Endings.{finish_ticket_step, finish_step, cancel_ticket_step, cancel_step, settle_desk_step, settle_step, drain_desk_step, drain_step}
 use Rattle.stm_commands.specs.Evaluation.{eval_step, eval_desk_step}
 use Rattle.stm_commands.specs.Jobs.{take_jobs_step, take_step, job_at, deliver_job_step, deliver_step, queued_line, handed_back, handback_ticket_step, handback_step}
-use Rattle.stm_commands.specs.OpenDesk.{HandedOut, OpenDesk, on_desk}
+use Rattle.stm_commands.specs.OpenDesk.{HandedOut, OpenDesk, known, on_desk}
 use Rattle.stm_commands.specs.Refusals.{refused}
 use Rattle.stm_run.specs.Console.{command_named, state_after, initial_console, desk_step, command_step, word_step, class_step, step}
 use Rattle.stm_run.specs.ConsoleState.{present_desk}
-use Rattle.stm_run.specs.Declaring.{declare_step, tvar_step}
+use Rattle.stm_run.specs.Declaring.{tvar_text_step, tvar_step}
 use Rattle.stm_run.specs.Fitting.{VariablesFit}
 use Rattle.stm_run.specs.Laws.{state_after_lines}
 use Rattle.stm_run.specs.LineCheckpoints.{auto_checkpoint}
 use Rattle.stm_run.proofs.ArgumentCases.{either_has, number_has, nothing_has}
 use Rattle.stm_run.proofs.DeliveredJobs.{take_stands, delivered_stands, evaluated_stands}
-use Rattle.stm_run.proofs.DeskMoves.{submitted_stands, finished_stands, cancelled_stands}
-use Rattle.stm_run.proofs.DeclaredVariables.{MayBeNext, may_be_next}
+use Rattle.stm_run.proofs.DeskMoves.{submitted_stands, declared_stands, finished_stands, cancelled_stands}
+use Rattle.stm_run.proofs.DeclaredVariables.{MayBeNext, may_be_next, LateOrTold, late_judged}
 use Rattle.stm_run.proofs.EventsOfConsole.{fits_more}
 use Rattle.stm_run.proofs.FitTables.{table_sound}
 use Rattle.stm_run.proofs.RunAtOnce.{ran_stands}
@@ -70,19 +72,23 @@ present_stands (Declaring table limit) h = record {
 present_stands (Open d) h = h
 
 -- ---- declarations
-declare_reached : (table : List Declared) (limit : ℕ) (r : Result Declared Refusal) → VariablesFit table → limit ≤ slow.max_events → ((d : Declared) → r ≡ Ok d → MayBeNext table d) → IsReached (declare_step table limit r).0
-declare_reached table limit (Ok d) v low next = (fits_more table d v (next d refl), low)
-declare_reached table limit (Err e) v low next = (v, low)
+tvar_text_reached : (table : List Declared) (limit : ℕ) (r : Result Declared Refusal) → VariablesFit table → limit ≤ slow.max_events → ((d : Declared) → r ≡ Ok d → MayBeNext table d) → IsReached (tvar_text_step table limit r).0
+tvar_text_reached table limit (Ok d) v low next = (fits_more table d v (next d refl), low)
+tvar_text_reached table limit (Err e) v low next = (v, low)
 
 -- ---- commands
 abbrev StandsAfter : OpenDesk × List ℕ → Type 0
 StandsAfter p = Stands p.0.desk p.0.jobs
 
-submit_stands : (d : DeskView) (jobs : List HandedOut) (r : Result Block Refusal) → BlockOrTold d.table r → Stands d jobs → Stands (submit_text_step d r).0 jobs
+submit_stands : (d : DeskView) (jobs : List HandedOut) (r : Result Block Refusal) → BlockOrTold (state_of d).names r → Stands d jobs → Stands (submit_text_step d r).0 jobs
 submit_stands d jobs (Ok b) h k = submitted_stands d jobs b h.0 (submit_refusal d b) refl k
 submit_stands d jobs (Err e) h k = k
 
-atomically_stands : (d : DeskView) (jobs : List HandedOut) (r : Result Block Refusal) → BlockOrTold d.table r → Stands d jobs → Stands (atomically_text_step d r).0 jobs
+declare_stands : (d : DeskView) (jobs : List HandedOut) (r : Result Declared Refusal) → LateOrTold r → Stands d jobs → Stands (declare_text_step d r).0 jobs
+declare_stands d jobs (Ok v) h k = declared_stands d jobs v h.0 (declare_refusal d v.name v.kind v.value) refl k
+declare_stands d jobs (Err e) h k = k
+
+atomically_stands : (d : DeskView) (jobs : List HandedOut) (r : Result Block Refusal) → BlockOrTold (state_of d).names r → Stands d jobs → Stands (atomically_text_step d r).0 jobs
 atomically_stands d jobs (Ok b) h k = ran_stands d jobs b h.0 (atomic_refusal d b) refl k
 atomically_stands d jobs (Err e) h k = k
 
@@ -114,13 +120,14 @@ auto_reached every (Declaring table limit) h = h
 auto_reached every (Open d) h = due_stands d (nat_le every (length d.desk.history)) (nat_le (state_of d.desk).next max_next) refl h
 
 module _ (blocks : BlockAnswersAreRight) (declarations : DeclarationAnswersAreRight) (faults : CheckNeverSaysNoMemory) (stable : VerdictIsStable) (checked : CheckedAreWellTyped) where
-  judged : (table : List Declared) (text : List ℕ) → BlockOrTold table (compiled_block table text)
+  judged : (names : List Named) (text : List ℕ) → BlockOrTold names (compiled_block names text)
   judged = compiled blocks declarations faults checked
 
   desk_stands : (d : OpenDesk) → Stands d.desk d.jobs → (c : Command) (argument : List ℕ) → StandsAfter (desk_step d c argument)
-  unfolding submit_step atomically_step take_step deliver_step handback_step eval_step finish_step cancel_step settle_step drain_step checkpoint_step
-  desk_stands d k Submit argument = submit_stands d.desk d.jobs (compiled_block d.desk.table argument) (judged d.desk.table argument) k
-  desk_stands d k Atomically argument = atomically_stands d.desk d.jobs (compiled_block d.desk.table argument) (judged d.desk.table argument) k
+  unfolding submit_step declare_step atomically_step take_step deliver_step handback_step eval_step finish_step cancel_step settle_step drain_step checkpoint_step
+  desk_stands d k Submit argument = submit_stands d.desk d.jobs (compiled_block (known d) argument) (judged (known d) argument) k
+  desk_stands d k Declare argument = declare_stands d.desk d.jobs (late_variable_of (known d) argument) (late_judged declarations (known d) argument) k
+  desk_stands d k Atomically argument = atomically_stands d.desk d.jobs (compiled_block (known d) argument) (judged (known d) argument) k
   desk_stands d k Take argument = number_has StandsAfter (take_jobs_step d) (d, argument_refused) (number_argument argument) (λ n. take_stands d n k) k
   desk_stands d k Deliver argument =
       number_has StandsAfter (λ n. on_desk d (deliver_job_step d.desk (job_at n d.jobs))) (d, argument_refused) (number_argument argument) (λ n. delivered_stands stable d.desk d.jobs n k) k
@@ -142,7 +149,7 @@ module _ (blocks : BlockAnswersAreRight) (declarations : DeclarationAnswersAreRi
   desk_stands d k c argument = k
 
   tvar_reached : (s : Console) → IsReached s → (argument : List ℕ) → IsReached (tvar_step s argument).0
-  tvar_reached (Declaring table limit) h argument = declare_reached table limit (variable_of table argument) h.0 h.1 (λ d e. may_be_next declarations table argument d h.0.0 e)
+  tvar_reached (Declaring table limit) h argument = tvar_text_reached table limit (variable_of table argument) h.0 h.1 (λ d e. may_be_next declarations table argument d h.0.0 e)
   tvar_reached (Open d) h argument = h
 
   command_reached : (s : Console) → IsReached s → (c : Command) (argument : List ℕ) → IsReached (command_step s c argument).0

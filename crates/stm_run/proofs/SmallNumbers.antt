@@ -1,16 +1,27 @@
 -- The numbers of the events of a legal history are small, wherever it begins.
-use Rattle.std.proofs.Common.{◌≡◌, ℕ, ◌≤◌, ◌<◌, Bool, true, false, cond, List, [], ◌∷◌, ◌++◌, map, Option, Some, None, refl, sym, subst, arith, append_assoc, length-append}
-use Rattle.std.specs.Prelude.{IsSomeAnd, filter, nat_eq}
+use Rattle.std.proofs.Common.{◌≡◌, ℕ, zero, suc, ◌≤◌, ◌<◌, Bool, true, false, ◌&&◌, cond, List, [], ◌∷◌, ◌++◌, length, map, Option, Some, None, refl, sym, ap, subst, arith, append_assoc, length-append}
+use Rattle.std.specs.Prelude.{IsSomeAnd, filter, nat_eq, nat_le, option_map}
 use Rattle.std.proofs.lemmas.Bool.Decides.{nat_tests}
+use Rattle.stm_terms.specs.declared.kinds.Ty.{Ty}
+use Rattle.stm_terms.specs.declared.values.Ref.TheVariants.{Old, New}
+use Rattle.stm_terms.specs.declared.values.Value.{Value}
+use Rattle.stm_terms.specs.declared.values.Value.TheVariants as value
 use Rattle.stm_terms.specs.declared.verdicts.Verdict.{Verdict}
+use Rattle.stm_terms.specs.Changes.{no_changes}
+use Rattle.stm_terms.specs.Limits.{most_refs}
+use Rattle.stm_terms.specs.Typing.{type_of, var_ty}
+use Rattle.stm_store.specs.declared.cell.Cell.{Cell}
+use Rattle.stm_store.specs.Cells.{Covers, kinds_of, plains}
+use Rattle.stm_store.specs.Naming.{Named, named_uses, known_kinds, is_of_known}
+use Rattle.stm_check.proofs.Weakening.{covered}
 use Rattle.stm_check.specs.Laws.{CheckNeverSaysNoMemory}
 use Rattle.stm_eval.specs.Laws.{VerdictIsStable}
 use Rattle.stm_parse.specs.ParseFunction.{BlockAnswersAreRight, DeclarationAnswersAreRight}
 use Rattle.stm_events.specs.declared.event.Event.{Event}
 use Rattle.stm_events.specs.declared.event.What.{What}
-use Rattle.stm_events.specs.declared.event.What.TheVariants.{Submitted, Installed, Finished, Cancelled}
+use Rattle.stm_events.specs.declared.event.What.TheVariants.{Submitted, Installed, Finished, Cancelled, Declared as DeclaredLate}
 use Rattle.stm_events.specs.Laws.{AreRising}
-use Rattle.stm_events.specs.SlowDesk.{Waiter, Slow, find_waiter, without_waiter, stale_after, becomes_stale, MayInstall, MayFinish, Allows, LegalFrom, state_from, max_events, after}
+use Rattle.stm_events.specs.SlowDesk.{Waiter, Slow, find_waiter, without_waiter, stale_after, becomes_stale, max_cells, MayInstall, MayFinish, MayDeclare, Allows, LegalFrom, state_from, max_events, after}
 use Rattle.stm_events.specs.States.{IsPossible, IsLegalFrom}
 use Rattle.stm_events.proofs.Folds.{legal_split}
 use Rattle.stm_events.proofs.Possible.{possible_from}
@@ -22,9 +33,10 @@ use Rattle.stm_event_lines.specs.WholeBlocks.{CheckedAreWellTyped}
 use Rattle.stm_run.specs.Console.{initial_console}
 use Rattle.stm_run.specs.ConsoleState.{present_desk}
 use Rattle.stm_run.specs.Laws.{state_after_lines}
-use Rattle.stm_run.specs.Fitting.{AreNumbersSmall, HaveSmallNumbers, NumbersAreSmall}
+use Rattle.stm_run.specs.Fitting.{IsReferenceSmall, AreNumbersSmall, HaveSmallNumbers, NumbersAreSmall}
 use Rattle.stm_run.proofs.ArgumentCases.{either_has}
 use Rattle.stm_run.proofs.ReachedConsole.{present_stands, reached}
+use Rattle.stm_run.proofs.TypedTable.{same_kind}
 
 -- each ticket of these blocks is below n
 abbrev AreBelow : ℕ → List Waiter → Type 0
@@ -75,12 +87,45 @@ finish_small s t n v stale (Some w) small b e h = (
   subst FitNumbers (sym h.listed) (stale_small s.next _ (without_waiter t s.waiters) small (below_without s.next t s.waiters b)),
 )
 
+-- a variable that has a name is in the store
+within : (cells : List (Ty × Value)) (i : ℕ) (t : Ty) → kinds_of cells i ≡ Some t → i < length cells
+within [] i t e = absurd cc
+within (c ∷ cells) zero t e = omega arith
+within (c ∷ cells) (suc i) t e = let h = within cells i t e in omega arith
+
+length-plains : (store : List Cell) → length (plains store) ≡ length store
+length-plains [] = refl
+length-plains (c ∷ store) = ap suc (length-plains store)
+
+named_within : (store : List Cell) (names : List Named) (i : ℕ) (kind : Ty) (o : Option Ty) → Covers (plains store) (named_uses names) → known_kinds names i ≡ o → option_map var_ty o ≡ Some kind → i < length store
+named_within store names i kind None c e t = absurd cc
+named_within store names i kind (Some u) c e t =
+    let low = within (plains store) i u (covered (plains store) (named_uses names) c i u e) in omega (arith, low, length-plains store)
+
+value_small : (store : List Cell) (names : List Named) (kind : Ty) (v : Value) → Covers (plains store) (named_uses names) → length store < max_cells → type_of (known_kinds names) no_changes v ≡ Some kind → IsReferenceSmall v
+value_small store names kind (value.Int n) c room t = tt
+value_small store names kind (value.Bool b) c room t = tt
+value_small store names kind value.Unit c room t = tt
+value_small store names kind (value.Var (Old i)) c room t = let low = named_within store names i kind (known_kinds names i) c refl t in omega (arith, low, room)
+value_small store names kind (value.Var (New k)) c room t = absurd cc
+
+left_of : (a b : Bool) → (a && b) ≡ true → (a ≡ true) × (b ≡ true)
+left_of true b e = (refl, e)
+left_of false b e = absurd cc
+
+declared_small : (s : Slow) (name : List ℕ) (kind : Ty) (v : Value) → IsPossible s → MayDeclare s name kind v → AreNumbersSmall (DeclaredLate name kind v)
+declared_small s name kind v p m =
+    let h = left_of (nat_le kind.refs most_refs) (is_of_known s.names v kind) m.holds in
+    let few : nat_le kind.refs most_refs ≡ true = h.0 in
+    (grind (arith, nat_tests), value_small s.store s.names kind v p.named m.room (same_kind (type_of (known_kinds s.names) no_changes v) kind h.1))
+
 -- what may happen has small numbers
-allowed_small : (s : Slow) (what : What) → s.next ≤ most_next → AreBelow s.next s.waiters → Allows s what → AreNumbersSmall what
-allowed_small s (Submitted t block) small b a = omega (arith, a.0, small)
-allowed_small s (Installed t v) small b a = small_of s.next t (waits_below (λ w. MayInstall s w v) s.next t s.waiters (find_waiter t s.waiters) b refl a) small
-allowed_small s (Finished t v n stale) small b a = finish_small s t n v stale (find_waiter t s.waiters) small b refl a
-allowed_small s (Cancelled t) small b a = small_of s.next t (waits_below (λ w. Unit {0}) s.next t s.waiters (find_waiter t s.waiters) b refl a) small
+allowed_small : (s : Slow) (what : What) → IsPossible s → s.next ≤ most_next → AreBelow s.next s.waiters → Allows s what → AreNumbersSmall what
+allowed_small s (Submitted t block) p small b a = omega (arith, a.0, small)
+allowed_small s (Installed t v) p small b a = small_of s.next t (waits_below (λ w. MayInstall s w v) s.next t s.waiters (find_waiter t s.waiters) b refl a) small
+allowed_small s (Finished t v n stale) p small b a = finish_small s t n v stale (find_waiter t s.waiters) small b refl a
+allowed_small s (Cancelled t) p small b a = small_of s.next t (waits_below (λ w. Unit {0}) s.next t s.waiters (find_waiter t s.waiters) b refl a) small
+allowed_small s (DeclaredLate name kind value) p small b a = declared_small s name kind value p a
 
 legal_front : (s : Slow) (xs ys : List Event) → LegalFrom s (xs ++ ys) → LegalFrom s xs
 legal_front s [] ys l = tt
@@ -102,7 +147,8 @@ rest_small first p low front (e ∷ es) l =
     let few = one.few in
     let next = next_le first front in
     let small : s.next ≤ most_next = omega (arith, next, few, low, length-append front (e ∷ [])) in
-    (allowed_small s e.what small (below s.next 0 s.waiters (possible_from first front p split.before).rising) allowed, rest_small first p low (front ++ e ∷ []) es whole)
+    let possible = possible_from first front p split.before in
+    (allowed_small s e.what possible small (below s.next 0 s.waiters possible.rising) allowed, rest_small first p low (front ++ e ∷ []) es whole)
 
 pub numbers_are_small : BlockAnswersAreRight → DeclarationAnswersAreRight → CheckNeverSaysNoMemory → VerdictIsStable → CheckedAreWellTyped → NumbersAreSmall
 numbers_are_small blocks declarations faults stable checked max_events low before =

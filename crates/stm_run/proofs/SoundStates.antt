@@ -1,33 +1,29 @@
--- The states that a console's desk may be in: events may go on from each, all in it is well typed, and it has the declared
--- variables. Allowed events and checkpoints lead from one to another.
-use Rattle.std.proofs.Common.{◌≡◌, ℕ, ◌≤◌, List, [], ◌∷◌, Option, Some, None, refl, sym, subst, ◌∙◌}
+-- The states that a console's desk may be in: events may go on from each, and all in it is well typed. Allowed events and checkpoints
+-- lead from one to another.
+use Rattle.std.proofs.Common.{◌≡◌, ℕ, ◌≤◌, List, [], ◌∷◌, Option, Some, None, refl, sym, subst, ◌∙◌, arith}
 use Rattle.std.specs.Prelude.{IsSomeAnd}
-use Rattle.stm_terms.specs.declared.kinds.Ty.{Ty}
 use Rattle.stm_terms.specs.declared.verdicts.Verdict.{Verdict}
-use Rattle.stm_store.specs.Cells.{plains, Covers, Fits, IsStore}
-use Rattle.stm_store.specs.Tables.{Declared, opened}
+use Rattle.stm_store.specs.Cells.{plains, Fits, IsStore}
 use Rattle.stm_store.proofs.ApplyPreservesTyping.{kept_store}
 use Rattle.stm_events.specs.declared.event.Event.{Event}
 use Rattle.stm_events.specs.declared.event.What.{What}
-use Rattle.stm_events.specs.declared.event.What.TheVariants.{Submitted, Installed, Finished, Cancelled}
+use Rattle.stm_events.specs.declared.event.What.TheVariants.{Submitted, Installed, Finished, Cancelled, Declared as DeclaredLate}
 use Rattle.stm_events.specs.declared.staleness.StalenessRule.TheVariants.{Changed}
 use Rattle.stm_events.specs.Laws.{SubmitsWellTyped, SubmittedAreWellTyped}
-use Rattle.stm_events.specs.SlowDesk.{Waiter, Slow, find_waiter, after, MayFinish, Allows, state_from, LegalFrom}
+use Rattle.stm_events.specs.SlowDesk.{Waiter, Slow, find_waiter, after, declaration, MayFinish, Allows, state_from, LegalFrom}
 use Rattle.stm_events.specs.States.{IsPossible, IsTypedState, observed}
 use Rattle.stm_events.proofs.Folds.{after-rule}
-use Rattle.stm_events.proofs.Kept.{variables_stay_covered}
+use Rattle.stm_events.proofs.NamedVariables.{declaration_fits}
 use Rattle.stm_events.proofs.Possible.{possible_after}
 use Rattle.stm_events.proofs.TypedStores.{typed_after, typed_verdict}
-use Rattle.stm_machine.specs.Machine.{event}
 use Rattle.stm_machine.specs.Checkpoints.{IsCheckpoint, checkpoint_state, checkpoint_of, max_next}
 use Rattle.stm_machine.proofs.CheckpointStates.{checkpoints_are_possible, checkpoints_are_unseen}
 
-pub record IsSound (table : List Declared) (s : Slow) : Type 0 where
+pub record IsSound (s : Slow) : Type 0 where
   pub possible : IsPossible s
   pub typed : IsTypedState s
   pub store : IsStore (plains s.store)
   pub rule : s.rule ≡ Changed
-  pub declared : (uses : List (ℕ × Ty)) → Covers (plains (opened table)) uses → Covers (plains s.store) uses
 
 -- ---- one event more
 store_finished : (s : Slow) (t : ℕ) (v : Verdict) (n : ℕ) (stale : List ℕ) → IsPossible s → IsTypedState s → IsStore (plains s.store) → (o : Option Waiter) → find_waiter t s.waiters ≡ o
@@ -44,30 +40,31 @@ store_after s (Submitted t b) p k i a = i
 store_after s (Installed t v) p k i a = i
 store_after s (Finished t v n stale) p k i a = store_finished s t v n stale p k i (find_waiter t s.waiters) refl a
 store_after s (Cancelled t) p k i a = i
+store_after s (DeclaredLate name kind value) p k i a =
+    let room = a.room in kept_store s.store (declaration kind value) (declaration_fits s name kind value p.named a) i (omega (arith, room))
 
-pub sound_after : (table : List Declared) (s : Slow) (what : What) → IsSound table s → Allows s what → SubmitsWellTyped what → IsSound table (after s what)
-sound_after table s what k a w = record {
+pub sound_after : (s : Slow) (what : What) → IsSound s → Allows s what → SubmitsWellTyped what → IsSound (after s what)
+sound_after s what k a w = record {
   possible = possible_after s what k.possible a;
   typed = typed_after s what k.possible a w k.typed;
   store = store_after s what k.possible k.typed k.store a;
   rule = after-rule s what ∙ k.rule;
-  declared = λ uses c. variables_stay_covered s (event 0 what ∷ []) uses (k.declared uses c);
 }
 
 -- ---- one after another
-pub sound_from : (table : List Declared) (s : Slow) (events : List Event) → IsSound table s → LegalFrom s events → SubmittedAreWellTyped events → IsSound table (state_from s events)
-sound_from table s [] k l w = k
-sound_from table s (e ∷ es) k l w = sound_from table (after s e.what) es (sound_after table s e.what k l.0.what w.0) l.1 w.1
+pub sound_from : (s : Slow) (events : List Event) → IsSound s → LegalFrom s events → SubmittedAreWellTyped events → IsSound (state_from s events)
+sound_from s [] k l w = k
+sound_from s (e ∷ es) k l w = sound_from (after s e.what) es (sound_after s e.what k l.0.what w.0) l.1 w.1
 
 -- ---- checkpoints
-pub is_checkpoint : (table : List Declared) (s : Slow) → IsSound table s → s.next ≤ max_next → IsCheckpoint (checkpoint_of s)
-is_checkpoint table s k low = (checkpoints_are_unseen s k.possible k.typed k.rule low k.store).0
+pub is_checkpoint : (s : Slow) → IsSound s → s.next ≤ max_next → IsCheckpoint (checkpoint_of s)
+is_checkpoint s k low = (checkpoints_are_unseen s k.possible k.typed k.rule low k.store).0
 
-pub unseen : (table : List Declared) (s : Slow) → IsSound table s → s.next ≤ max_next → observed (checkpoint_state (checkpoint_of s)) ≡ observed s
-unseen table s k low = (checkpoints_are_unseen s k.possible k.typed k.rule low k.store).1
+pub unseen : (s : Slow) → IsSound s → s.next ≤ max_next → observed (checkpoint_state (checkpoint_of s)) ≡ observed s
+unseen s k low = (checkpoints_are_unseen s k.possible k.typed k.rule low k.store).1
 
-pub sound_checkpoint : (table : List Declared) (s : Slow) → IsSound table s → s.next ≤ max_next → IsSound table (checkpoint_state (checkpoint_of s))
+pub sound_checkpoint : (s : Slow) → IsSound s → s.next ≤ max_next → IsSound (checkpoint_state (checkpoint_of s))
 unfolding checkpoint_of
-sound_checkpoint table s k low =
-    let both = checkpoints_are_possible (checkpoint_of s) (is_checkpoint table s k low) in
-    record { possible = both.0; typed = both.1; store = k.store; rule = refl; declared = k.declared }
+sound_checkpoint s k low =
+    let both = checkpoints_are_possible (checkpoint_of s) (is_checkpoint s k low) in
+    record { possible = both.0; typed = both.1; store = k.store; rule = refl }

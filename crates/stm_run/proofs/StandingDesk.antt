@@ -30,7 +30,7 @@ AllTaken s (j ∷ js) = IsTicketOf j.block s j.ticket × AllTaken s js
 pub record StandsOn
     (table : List Declared) (checkpoint : Option CheckpointView) (limit : ℕ) (history : List Event) (pending : List Entry) (jobs : List HandedOut)
     : Type 0 where
-  pub start : IsSound table (start_of table checkpoint)
+  pub start : IsSound (start_of table checkpoint)
   pub low : (start_of table checkpoint).next ≤ max_next
   pub legal : IsLegalFrom (start_of table checkpoint) history
   pub typed : SubmittedAreWellTyped history
@@ -42,8 +42,8 @@ abbrev pub Stands : DeskView → List HandedOut → Type 0
 Stands d jobs = StandsOn d.table d.checkpoint d.limit d.history d.pending jobs
 
 -- its present state is sound, too
-pub stands_sound : (d : DeskView) (jobs : List HandedOut) → Stands d jobs → IsSound d.table (state_of d)
-stands_sound d jobs k = sound_from d.table (start_of d.table d.checkpoint) d.history k.start k.legal.each k.typed
+pub stands_sound : (d : DeskView) (jobs : List HandedOut) → Stands d jobs → IsSound (state_of d)
+stands_sound d jobs k = sound_from (start_of d.table d.checkpoint) d.history k.start k.legal.each k.typed
 
 -- ---- one event more
 taken_later : (s : Slow) (what : What) (jobs : List HandedOut) → IsPossible s → Allows s what → AllTaken s jobs → AllTaken (after s what) jobs
@@ -142,10 +142,10 @@ stands_checkpointed d jobs low k =
     let s = state_of d in
     let s' = checkpoint_state (checkpoint_of s) in
     let sound = stands_sound d jobs k in
-    let e : observed s ≡ observed s' = sym (unseen d.table s sound low) in
+    let e : observed s ≡ observed s' = sym (unseen s sound low) in
     let same : (t : ℕ) → MayBeAlike (find_waiter t s.waiters) (find_waiter t s'.waiters) = λ t. alike_found t s.waiters s'.waiters (alike_from s.waiters s'.waiters (ap (λ o. o.waiters) e)) in
     record {
-      start = sound_checkpoint d.table s sound low;
+      start = sound_checkpoint s sound low;
       low = low;
       legal = record { each = tt; few = omega arith };
       typed = tt;

@@ -1,7 +1,8 @@
--- What texts declare and which blocks they are: a value of its type, a well typed block over the table, or a refusal other than
+-- What texts declare and which blocks they are: a value of its type, a well typed block over the names, or a refusal other than
 -- for lack of memory.
 use Rattle.std.proofs.Common.{◌≡◌, ◌≢◌, ℕ, Bool, true, false, cond, List, [], length, Option, Some, None, Result, Ok, Err, refl, ap, ◌∙◌, subst}
 use Rattle.std.specs.Prelude.{is_some, not, nat_lt}
+use Rattle.stm_terms.specs.declared.kinds.Ty.{Ty}
 use Rattle.stm_terms.specs.declared.values.Value.{Value}
 use Rattle.stm_terms.specs.ParsedAst as raw
 use Rattle.stm_terms.specs.Ast.{Act}
@@ -13,13 +14,14 @@ use Rattle.stm_parse.specs.Grammar.{IsBlock, DeclarationTree as Tree, IsDeclarat
 use Rattle.stm_parse.specs.ParseFunction.{IsAnswer, parsed_block, declared_tree, declaration_result, parsed_declaration, BlockAnswersAreRight, DeclarationAnswersAreRight}
 use Rattle.stm_check.specs.declared.fault.TypeFault.{TypeFault}
 use Rattle.stm_check.specs.declared.fault.TypeFault.TheVariants as typed
-use Rattle.stm_check.specs.CheckFunction.{table_kinds, checked}
+use Rattle.stm_check.specs.CheckFunction.{checked}
 use Rattle.stm_check.specs.Laws.{CheckNeverSaysNoMemory}
 use Rattle.stm_check.specs.TypedBlock.{Block}
 use Rattle.stm_store.specs.declared.table.DeclareError.{DeclareError}
 use Rattle.stm_store.specs.declared.table.DeclareError.TheVariants as declare
-use Rattle.stm_store.specs.Cells.{Covers, plains}
-use Rattle.stm_store.specs.Tables.{Declared, declared_cells, number_of, may_hold, declare_refusal, opened}
+use Rattle.stm_store.specs.Cells.{Covers}
+use Rattle.stm_store.specs.Naming.{Named, named_uses, known_kinds}
+use Rattle.stm_store.specs.Tables.{Declared, declared_cells, number_of, may_hold, declare_refusal}
 use Rattle.stm_events.specs.Laws.{IsWellTyped}
 use Rattle.stm_event_lines.specs.WholeBlocks.{CheckedAreWellTyped}
 use Rattle.stm_event_lines.specs.WholeBlocks.{BlockFault, NotParsed, NotTyped, block_if_typed, block_if_parsed, checked_block}
@@ -28,7 +30,7 @@ use Rattle.stm_blocks.specs.declared.refusal.Refusal.TheVariants.{Unknown}
 use Rattle.stm_blocks.specs.CompiledBlock.{block_or_refusal, compiled_block}
 use Rattle.stm_blocks.specs.DeclaredVariable.{reference_to, initial, unless_refused, with_initial_value, on_declaration, variable_of}
 use Rattle.stm_blocks.specs.OutOfMemory.{IsOutOfMemory}
-use Rattle.stm_blocks.proofs.UsesAreCovered.{opened_covers}
+use Rattle.stm_blocks.proofs.UsesAreCovered.{named_cover}
 
 -- ---- declarations
 -- a variable that is declared has a value of its type; a refusal isn't for lack of memory
@@ -61,15 +63,15 @@ declares_initial table d (Err x) e = of d.init e
     of (named name place) q = referred place (number_of name table) q
 
 -- ---- blocks
--- a block of a text is well typed, and its variables are declared; a refusal isn't for lack of memory
-abbrev pub BlockOrTold : List Declared → Result Block Refusal → Type 0
-BlockOrTold table (Ok b) = IsWellTyped b × Covers (plains (opened table)) b.uses
-BlockOrTold table (Err e) = ¬ IsOutOfMemory e
+-- a block of a text is well typed, and each store with the named variables has those that it names; a refusal isn't for lack of memory
+abbrev pub BlockOrTold : List Named → Result Block Refusal → Type 0
+BlockOrTold known (Ok b) = IsWellTyped b × ((cells : List (Ty × Value)) → Covers cells (named_uses known) → Covers cells b.uses)
+BlockOrTold known (Err e) = ¬ IsOutOfMemory e
 
-abbrev Judged : List Declared → Result Block BlockFault → Type 0
-Judged table (Ok b) = Covers (plains (opened table)) b.uses
-Judged table (Err (NotParsed e)) = e ≢ parse.NoMemory
-Judged table (Err (NotTyped e)) = e ≢ typed.NoMemory
+abbrev Judged : List Named → Result Block BlockFault → Type 0
+Judged known (Ok b) = (cells : List (Ty × Value)) → Covers cells (named_uses known) → Covers cells b.uses
+Judged known (Err (NotParsed e)) = e ≢ parse.NoMemory
+Judged known (Err (NotTyped e)) = e ≢ typed.NoMemory
 
 module _ (blocks : BlockAnswersAreRight) (declarations : DeclarationAnswersAreRight) (faults : CheckNeverSaysNoMemory) (well_typed : CheckedAreWellTyped) where
   declares_tree : (table : List Declared) (text : List ℕ) (r : Result Tree ParseFault) → IsAnswer IsDeclaration text r → MayHoldOrTold table (on_declaration table (declaration_result text r))
@@ -80,23 +82,23 @@ module _ (blocks : BlockAnswersAreRight) (declarations : DeclarationAnswersAreRi
   unfolding variable_of parsed_declaration
   declares table text = declares_tree table text (declared_tree text) (declarations text)
 
-  typed_judged : (table : List Declared) (text : List ℕ) (tree : raw.RawAct) (r : Result (Act × ActionType) TypeFault) → checked table text [] tree ≡ r → Judged table (block_if_typed table text r)
-  typed_judged table text tree (Ok x) e = opened_covers table x.0 (uses_of (table_kinds table) x.0) refl
-  typed_judged table text tree (Err f) e = λ q. faults table text tree [] (e ∙ ap Err q)
+  typed_judged : (known : List Named) (text : List ℕ) (tree : raw.RawAct) (r : Result (Act × ActionType) TypeFault) → checked known text [] tree ≡ r → Judged known (block_if_typed known text r)
+  typed_judged known text tree (Ok x) e = λ cells c. named_cover known x.0 (uses_of (known_kinds known) x.0) cells refl c
+  typed_judged known text tree (Err f) e = λ q. faults known text tree [] (e ∙ ap Err q)
 
-  parsed_judged : (table : List Declared) (text : List ℕ) (r : Result raw.RawAct ParseFault) → IsAnswer IsBlock text r → Judged table (block_if_parsed table text r)
-  parsed_judged table text (Ok tree) h = typed_judged table text tree (checked table text [] tree) refl
-  parsed_judged table text (Err f) h = h.0
+  parsed_judged : (known : List Named) (text : List ℕ) (r : Result raw.RawAct ParseFault) → IsAnswer IsBlock text r → Judged known (block_if_parsed known text r)
+  parsed_judged known text (Ok tree) h = typed_judged known text tree (checked known text [] tree) refl
+  parsed_judged known text (Err f) h = h.0
 
-  text_judged : (table : List Declared) (text : List ℕ) → Judged table (checked_block table text)
+  text_judged : (known : List Named) (text : List ℕ) → Judged known (checked_block known text)
   unfolding checked_block
-  text_judged table text = parsed_judged table text (parsed_block text) (blocks text)
+  text_judged known text = parsed_judged known text (parsed_block text) (blocks text)
 
-  judged_block : (table : List Declared) (text : List ℕ) (r : Result Block BlockFault) → checked_block table text ≡ r → Judged table r → BlockOrTold table (block_or_refusal r)
-  judged_block table text (Ok b) e h = (well_typed table text b e, h)
-  judged_block table text (Err (NotParsed f)) e h = h
-  judged_block table text (Err (NotTyped f)) e h = h
+  judged_block : (known : List Named) (text : List ℕ) (r : Result Block BlockFault) → checked_block known text ≡ r → Judged known r → BlockOrTold known (block_or_refusal r)
+  judged_block known text (Ok b) e h = (well_typed known text b e, h)
+  judged_block known text (Err (NotParsed f)) e h = h
+  judged_block known text (Err (NotTyped f)) e h = h
 
-  pub compiled : (table : List Declared) (text : List ℕ) → BlockOrTold table (compiled_block table text)
+  pub compiled : (known : List Named) (text : List ℕ) → BlockOrTold known (compiled_block known text)
   unfolding compiled_block
-  compiled table text = judged_block table text (checked_block table text) refl (text_judged table text)
+  compiled known text = judged_block known text (checked_block known text) refl (text_judged known text)

@@ -7,6 +7,7 @@ use Rattle.stm_check.specs.TypedBlock.{Block}
 use Rattle.stm_eval.specs.Laws.{VerdictIsStable}
 use Rattle.stm_parse.specs.ParseFunction.{BlockAnswersAreRight, DeclarationAnswersAreRight}
 use Rattle.stm_store.specs.declared.cell.Cell.{Cell}
+use Rattle.stm_store.specs.Naming.{Named}
 use Rattle.stm_store.specs.Tables.{Declared}
 use Rattle.stm_queue.specs.Queue.{Entry, recalled}
 use Rattle.stm_events.specs.SlowDesk.{find_waiter}
@@ -20,11 +21,13 @@ use Rattle.stm_lines.specs.LineClass.{LineClass, TooLong, Silent, NotAscii, Word
 use Rattle.stm_lines.specs.NumberArgument.{number_argument}
 use Rattle.stm_blocks.specs.declared.refusal.Refusal.{Refusal}
 use Rattle.stm_blocks.specs.CompiledBlock.{compiled_block}
+use Rattle.stm_blocks.specs.DeclaredVariable.{late_variable_of}
 use Rattle.stm_commands.specs.Arguments.{with_number, with_nothing, argument_refused}
 use Rattle.stm_commands.specs.Atomically.{atomically_text_step, atomically_step}
 use Rattle.stm_commands.specs.Blocks.{tried_text, try_answer, looked_text, looks_answer, submit_text_step, submit_step}
 use Rattle.stm_commands.specs.Checkpointing.{are_tickets_full, begun_anew}
 use Rattle.stm_commands.specs.Contents.{show_answer, waiter_reads_text, reads_answer, store_text, store_answer}
+use Rattle.stm_commands.specs.Declaring.{declare_text_step, declare_step}
 use Rattle.stm_events.specs.SlowSettle.{next_what}
 use Rattle.stm_events.specs.SlowDrain.{next_drain}
 use Rattle.stm_commands.specs.Endings.{finish_ticket_step, finish_step, cancel_ticket_step, cancel_step, settled_line, drained_line, settle_desk_step, settle_step, drain_desk_step, drain_step}
@@ -34,7 +37,7 @@ use Rattle.stm_commands.specs.OpenDesk.{HandedOut, OpenDesk, on_desk}
 use Rattle.stm_commands.specs.Questions.{ready_answer}
 use Rattle.stm_commands.specs.Refusals.{refused}
 use Rattle.stm_run.specs.declared.command.Command.{Command}
-use Rattle.stm_run.specs.declared.command.Command.TheVariants.{Tvar, Try, Looks, Submit, Atomically, Take, Deliver, Handback, Eval, Finish, Cancel, Show, Reads, Store, Settle, Drain, History, Ready, Why, Events, Checkpoint}
+use Rattle.stm_run.specs.declared.command.Command.TheVariants.{Tvar, Declare, Try, Looks, Submit, Atomically, Take, Deliver, Handback, Eval, Finish, Cancel, Show, Reads, Store, Settle, Drain, History, Ready, Why, Events, Checkpoint}
 use Rattle.stm_run.specs.declared.console.Console.{Console}
 use Rattle.stm_run.specs.declared.console.Console.TheVariants.{Declaring, Open}
 use Rattle.stm_run.specs.Console.{command_named, answer_to, answers_to, state_after, initial_console, desk_step, command_step, word_step, class_step, step}
@@ -42,9 +45,10 @@ use Rattle.stm_run.specs.ConsoleState.{present_desk, is_open, events_of, with_ch
 use Rattle.stm_run.specs.Laws.{state_after_lines}
 use Rattle.stm_run.specs.LineCheckpoints.{auto_checkpoint, answers_by, command_checkpoints, word_checkpoints, class_checkpoints, line_checkpoints, Turn, turn_lines, refused_step, line_step}
 use Rattle.stm_run.specs.Unseen.{LookAlike, is_of_history, word_is_of_history, class_is_of_history, line_is_of_history, HaveRoom, CheckpointsAreUnseenByCommands}
-use Rattle.stm_run.proofs.AlikeSteps.{AlikeSteps, NotFull, submit_alike, atomically_alike, cancel_alike, finish_alike, handback_alike, deliver_alike, eval_alike, settle_order, drain_order, run_alike}
+use Rattle.stm_run.proofs.AlikeSteps.{AlikeSteps, NotFull, submit_alike, declare_alike, atomically_alike, cancel_alike, finish_alike, handback_alike, deliver_alike, eval_alike, settle_order, drain_order, run_alike}
+use Rattle.stm_run.proofs.DeclaredVariables.{LateOrTold, late_judged}
 use Rattle.stm_run.proofs.DeliveredJobs.{delivered_stands}
-use Rattle.stm_run.proofs.LookingAlike.{AlikeDesks, same_store, same_found, alike_pending, show_alike, reads_alike, ready_alike, jobs_alike}
+use Rattle.stm_run.proofs.LookingAlike.{AlikeDesks, same_store, same_names, same_found, alike_pending, show_alike, reads_alike, ready_alike, jobs_alike}
 use Rattle.stm_run.proofs.ReachedConsole.{IsReached, auto_reached, line_reached, start_reached, reached}
 use Rattle.stm_run.proofs.SoundStates.{unseen}
 use Rattle.stm_run.proofs.StandingDesk.{Stands, stands_sound, stands_checkpointed}
@@ -112,26 +116,31 @@ take_alike b d d' jobs n k =
     (cond {A = OpenDesk × List ℕ} c (record { desk = d'; jobs = jobs }, refused (codes "JobsFull")) (with_jobs (record { desk = d'; jobs = jobs }) ts, jobs_line (length jobs + 1) ts))) tickets
     (taken_alike b c d d' jobs (taken d n) k (jobs_line (length jobs + 1) (taken d n)))
 
-module _ (judged : (table : List Declared) (text : List ℕ) → BlockOrTold table (compiled_block table text)) (stable : VerdictIsStable) where
+module _ (judged : (names : List Named) (text : List ℕ) → BlockOrTold names (compiled_block names text)) (late : (names : List Named) (text : List ℕ) → LateOrTold (late_variable_of names text)) (stable : VerdictIsStable) where
   -- with the same jobs
   desk_alike : (b : Bool) (d d' : DeskView) (jobs : List HandedOut) → Stands d jobs → AlikeDesks b d d' → (c : Command) → is_of_history c ≡ false → (argument : List ℕ)
       → Follows b (desk_step (record { desk = d; jobs = jobs }) c argument) (desk_step (record { desk = d'; jobs = jobs }) c argument)
-  unfolding try_answer looks_answer submit_step atomically_step take_step deliver_step handback_step eval_step finish_step cancel_step show_answer reads_answer store_answer settle_step drain_step ready_answer
+  unfolding declare_step try_answer looks_answer submit_step atomically_step take_step deliver_step handback_step eval_step finish_step cancel_step show_answer reads_answer store_answer settle_step drain_step ready_answer
   desk_alike b d d' jobs st k Tvar h argument = said b _ _ _ _ (record { desks = k; jobs = refl }) refl
+  desk_alike b d d' jobs st k Declare h argument = λ n.
+      subst (λ (r : Result Declared Refusal). NotFull b (declare_text_step d (late_variable_of (state_of d).names argument)).1 (declare_text_step d' r).1
+      → AlikeResults b (on_desk (record { desk = d; jobs = jobs }) (declare_text_step d (late_variable_of (state_of d).names argument))) (on_desk (record { desk = d'; jobs = jobs }) (declare_text_step d' r)))
+      (ap (λ (ns : List Named). late_variable_of ns argument) (same_names b d d' k))
+      (λ m. stepped b _ _ _ _ (record { desks = k; jobs = refl }) (declare_alike b d d' jobs (late_variable_of (state_of d).names argument) (late (state_of d).names argument) st k m)) n
   desk_alike b d d' jobs st k Try h argument =
-      said b _ _ _ _ (record { desks = k; jobs = refl }) (ap₂ (λ (cells : List Cell) (t : List Declared). tried_text cells (compiled_block t argument)) (same_store b d d' k) k.table)
+      said b _ _ _ _ (record { desks = k; jobs = refl }) (ap₂ (λ (cells : List Cell) (ns : List Named). tried_text cells (compiled_block ns argument)) (same_store b d d' k) (same_names b d d' k))
   desk_alike b d d' jobs st k Looks h argument =
-      said b _ _ _ _ (record { desks = k; jobs = refl }) (ap₂ (λ (cells : List Cell) (t : List Declared). looked_text cells (compiled_block t argument)) (same_store b d d' k) k.table)
+      said b _ _ _ _ (record { desks = k; jobs = refl }) (ap₂ (λ (cells : List Cell) (ns : List Named). looked_text cells (compiled_block ns argument)) (same_store b d d' k) (same_names b d d' k))
   desk_alike b d d' jobs st k Submit h argument = λ n.
-      subst (λ (r : Result Block Refusal). NotFull b (submit_text_step d (compiled_block d.table argument)).1 (submit_text_step d' r).1
-      → AlikeResults b (on_desk (record { desk = d; jobs = jobs }) (submit_text_step d (compiled_block d.table argument))) (on_desk (record { desk = d'; jobs = jobs }) (submit_text_step d' r)))
-      (ap (λ (t : List Declared). compiled_block t argument) k.table)
-      (λ m. stepped b _ _ _ _ (record { desks = k; jobs = refl }) (submit_alike b d d' jobs (compiled_block d.table argument) (judged d.table argument) st k m)) n
+      subst (λ (r : Result Block Refusal). NotFull b (submit_text_step d (compiled_block (state_of d).names argument)).1 (submit_text_step d' r).1
+      → AlikeResults b (on_desk (record { desk = d; jobs = jobs }) (submit_text_step d (compiled_block (state_of d).names argument))) (on_desk (record { desk = d'; jobs = jobs }) (submit_text_step d' r)))
+      (ap (λ (ns : List Named). compiled_block ns argument) (same_names b d d' k))
+      (λ m. stepped b _ _ _ _ (record { desks = k; jobs = refl }) (submit_alike b d d' jobs (compiled_block (state_of d).names argument) (judged (state_of d).names argument) st k m)) n
   desk_alike b d d' jobs st k Atomically h argument = λ n.
-      subst (λ (r : Result Block Refusal). NotFull b (atomically_text_step d (compiled_block d.table argument)).1 (atomically_text_step d' r).1
-      → AlikeResults b (on_desk (record { desk = d; jobs = jobs }) (atomically_text_step d (compiled_block d.table argument))) (on_desk (record { desk = d'; jobs = jobs }) (atomically_text_step d' r)))
-      (ap (λ (t : List Declared). compiled_block t argument) k.table)
-      (λ m. stepped b _ _ _ _ (record { desks = k; jobs = refl }) (atomically_alike b d d' jobs (compiled_block d.table argument) (judged d.table argument) st k m)) n
+      subst (λ (r : Result Block Refusal). NotFull b (atomically_text_step d (compiled_block (state_of d).names argument)).1 (atomically_text_step d' r).1
+      → AlikeResults b (on_desk (record { desk = d; jobs = jobs }) (atomically_text_step d (compiled_block (state_of d).names argument))) (on_desk (record { desk = d'; jobs = jobs }) (atomically_text_step d' r)))
+      (ap (λ (ns : List Named). compiled_block ns argument) (same_names b d d' k))
+      (λ m. stepped b _ _ _ _ (record { desks = k; jobs = refl }) (atomically_alike b d d' jobs (compiled_block (state_of d).names argument) (judged (state_of d).names argument) st k m)) n
   desk_alike b d d' jobs st k Take h argument =
       by_number b (take_jobs_step (record { desk = d; jobs = jobs })) (take_jobs_step (record { desk = d'; jobs = jobs })) _ _ (number_argument argument)
       (λ n m. take_alike b d d' jobs n k) (said b _ _ _ _ (record { desks = k; jobs = refl }) refl)
@@ -158,7 +167,7 @@ module _ (judged : (table : List Declared) (text : List ℕ) → BlockOrTold tab
       (λ t. reads_alike (find_waiter t (state_of d).waiters) (find_waiter t (state_of d').waiters) (same_found b d d' t k)))
   desk_alike b d d' jobs st k Store h argument =
       said b _ _ _ _ (record { desks = k; jobs = refl })
-      (ap₂ (λ (t : List Declared) (cells : List Cell). with_nothing (store_text t cells) argument_refused argument) k.table (same_store b d d' k))
+      (ap₂ (λ (ns : List Named) (cells : List Cell). with_nothing (store_text ns cells) argument_refused argument) (same_names b d d' k) (same_store b d d' k))
   desk_alike b d d' jobs st k Settle h argument =
       by_nothing b (on_desk (record { desk = d; jobs = jobs }) (settle_desk_step (requeued_all d))) (on_desk (record { desk = d'; jobs = jobs }) (settle_desk_step (requeued_all d'))) _ _ argument
       (λ m. stepped b _ _ _ _ (record { desks = k; jobs = refl })
@@ -204,6 +213,7 @@ module _ (judged : (table : List Declared) (text : List ℕ) → BlockOrTold tab
 -- ---- a line that isn't of the history makes no checkpoint, so nothing can keep it from that
 no_checkpoint_by : (s : Console) (c : Command) (argument : List ℕ) → is_of_history c ≡ false → command_checkpoints s c argument ≡ false
 no_checkpoint_by s Tvar argument h = refl
+no_checkpoint_by s Declare argument h = refl
 no_checkpoint_by s Try argument h = refl
 no_checkpoint_by s Looks argument h = refl
 no_checkpoint_by s Submit argument h = refl
@@ -255,7 +265,7 @@ checkpoint_alike b d d' jobs st low k = record {
   pending = k.pending;
   possible = k.possible;
   possible_too = (stands_sound (checkpointed d') jobs (stands_checkpointed d' jobs low st)).possible;
-  same = k.same ∙ sym (unseen d'.table (state_of d') (stands_sound d' jobs st) low);
+  same = k.same ∙ sym (unseen (state_of d') (stands_sound d' jobs st) low);
   fewer = λ e. omega arith;
 }
 
@@ -295,7 +305,7 @@ to_look b (Open d) (Open d') k = record {
 }
 
 module _ (blocks : BlockAnswersAreRight) (declarations : DeclarationAnswersAreRight) (faults : CheckNeverSaysNoMemory) (stable : VerdictIsStable) (checked : CheckedAreWellTyped) where
-  judged : (table : List Declared) (text : List ℕ) → BlockOrTold table (compiled_block table text)
+  judged : (names : List Named) (text : List ℕ) → BlockOrTold names (compiled_block names text)
   judged = compiled blocks declarations faults checked
 
   after_line : (s : Console) → IsReached s → (line : List ℕ) → IsReached (state_after s line)
@@ -306,7 +316,7 @@ module _ (blocks : BlockAnswersAreRight) (declarations : DeclarationAnswersAreRi
       → AlikeConsoles b (state_after s line) (state_after s' line) × (answer_to s line ≡ answer_to s' line)
   one_line b (Declaring table limit) s' r k line h n = absurd k
   one_line b (Open d) (Declaring table limit) r k line h n = absurd k
-  one_line b (Open d) (Open d') r k line h n = line_alike judged stable b d d' r k line h n
+  one_line b (Open d) (Open d') r k line h n = line_alike judged (late_judged declarations) stable b d d' r k line h n
 
   checkpoint_seen : (s : Console) → IsReached s → is_open s ≡ true → are_tickets_full (present_desk s) ≡ false → LookAlike s (with_checkpoint s)
   checkpoint_seen (Declaring table limit) r o e = absurd (cc o)

@@ -7,6 +7,7 @@ use Rattle.stm_commands.specs.Atomically.{atomically_step}
 use Rattle.stm_commands.specs.Blocks.{try_answer, looks_answer, submit_step}
 use Rattle.stm_commands.specs.Checkpointing.{checkpoint_step}
 use Rattle.stm_commands.specs.Contents.{show_answer, reads_answer, store_answer, history_answer}
+use Rattle.stm_commands.specs.Declaring.{declare_step}
 use Rattle.stm_commands.specs.Endings.{finish_step, cancel_step, settle_step, drain_step}
 use Rattle.stm_commands.specs.Evaluation.{eval_step}
 use Rattle.stm_commands.specs.Jobs.{take_step, deliver_step, handback_step}
@@ -14,7 +15,7 @@ use Rattle.stm_commands.specs.OpenDesk.{OpenDesk}
 use Rattle.stm_commands.specs.Questions.{ready_answer, why_answer, events_answer}
 use Rattle.stm_commands.specs.Refusals.{refused}
 use Rattle.stm_run.specs.declared.command.Command.{Command}
-use Rattle.stm_run.specs.declared.command.Command.TheVariants.{Tvar, Try, Looks, Submit, Atomically, Take, Deliver, Handback, Eval, Finish, Cancel, Show, Reads, Store, Settle, Drain, History, Ready, Why, Events, Checkpoint}
+use Rattle.stm_run.specs.declared.command.Command.TheVariants.{Tvar, Declare, Try, Looks, Submit, Atomically, Take, Deliver, Handback, Eval, Finish, Cancel, Show, Reads, Store, Settle, Drain, History, Ready, Why, Events, Checkpoint}
 use Rattle.stm_run.specs.declared.console.Console.{Console}
 use Rattle.stm_run.specs.declared.console.Console.TheVariants.{Declaring, Open}
 use Rattle.stm_run.specs.ConsoleState.{present_desk}
@@ -23,8 +24,8 @@ use Rattle.stm_run.specs.Declaring.{tvar_step}
 -- the commands by their words
 abbrev pub command_words : List (List ℕ × Command)
 command_words =
-    (codes "tvar", Tvar) ∷ (codes "try", Try) ∷ (codes "looks", Looks) ∷ (codes "show", Show) ∷ (codes "reads", Reads)
-    ∷ (codes "store", Store) ∷ (codes "history", History) ∷ (codes "ready", Ready) ∷ (codes "why", Why)
+    (codes "tvar", Tvar) ∷ (codes "declare", Declare) ∷ (codes "try", Try) ∷ (codes "looks", Looks) ∷ (codes "show", Show)
+    ∷ (codes "reads", Reads) ∷ (codes "store", Store) ∷ (codes "history", History) ∷ (codes "ready", Ready) ∷ (codes "why", Why)
     ∷ (codes "events", Events) ∷ (codes "submit", Submit) ∷ (codes "atomically", Atomically) ∷ (codes "take", Take)
     ∷ (codes "deliver", Deliver) ∷ (codes "handback", Handback) ∷ (codes "eval", Eval) ∷ (codes "finish", Finish) ∷ (codes "cancel", Cancel)
     ∷ (codes "settle", Settle) ∷ (codes "drain", Drain) ∷ (codes "checkpoint", Checkpoint) ∷ []
@@ -38,9 +39,10 @@ command_in (c ∷ cs) word = if bytes_eq word c.0 then Some c.1 else command_in 
 unfoldable pub command_named : List ℕ → Option Command
 command_named word = command_in command_words word
 
--- what a command does on an open desk, and what it prints; no declaration is taken there
+-- what a command does on an open desk, and what it prints; no `tvar` is taken there
 abbrev pub desk_step : OpenDesk → Command → List ℕ → OpenDesk × List ℕ
 desk_step d Tvar argument = (d, refused (codes "Late"))
+desk_step d Declare argument = declare_step d argument
 desk_step d Try argument = (d, try_answer d argument)
 desk_step d Looks argument = (d, looks_answer d argument)
 desk_step d Submit argument = submit_step d argument

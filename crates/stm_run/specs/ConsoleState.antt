@@ -19,7 +19,7 @@ abbrev pub is_open : Console → Bool
 is_open (Declaring table limit) = false
 is_open (Open d) = true
 
--- the declared variables
+-- the variables that are declared first
 abbrev pub table_of : Console → List Declared
 table_of s = (present_desk s).desk.table
 
@@ -27,13 +27,13 @@ table_of s = (present_desk s).desk.table
 abbrev pub checkpoint_of_console : Console → Option CheckpointView
 checkpoint_of_console s = (present_desk s).desk.checkpoint
 
--- where the history begins
-abbrev pub start_of_console : Console → Start
-start_of_console s = written_start (table_of s) (checkpoint_of_console s)
-
 -- the events so far, since the last checkpoint
 abbrev pub events_of : Console → List Event
 events_of s = (present_desk s).desk.history
+
+-- where the history begins, as it is written
+abbrev pub start_of_console : Console → Start
+start_of_console s = written_start (table_of s) (checkpoint_of_console s) (events_of s)
 
 -- the console with a checkpoint of its desk: the history is empty, and begins from the present state
 abbrev pub with_checkpoint : Console → Console

@@ -12,11 +12,11 @@ unfoldable pub tvar_line : ℕ → List ℕ → List ℕ
 tvar_line number name = codes "tvar #" ++ decimal number ++ 32 ∷ name ++ 10 ∷ []
 
 -- `tvar` of what a text declares: the table has the new variable, or the text is refused
-abbrev pub declare_step : List Declared → ℕ → Result Declared Refusal → Console × List ℕ
-declare_step table limit (Ok d) = (Declaring (table ++ d ∷ []) limit, tvar_line (length table) d.name)
-declare_step table limit (Err e) = (Declaring table limit, refusal_text e)
+abbrev pub tvar_text_step : List Declared → ℕ → Result Declared Refusal → Console × List ℕ
+tvar_text_step table limit (Ok d) = (Declaring (table ++ d ∷ []) limit, tvar_line (length table) d.name)
+tvar_text_step table limit (Err e) = (Declaring table limit, refusal_text e)
 
 -- `tvar`: declares a variable, until the desk is open
 abbrev pub tvar_step : Console → List ℕ → Console × List ℕ
-tvar_step (Declaring table limit) argument = declare_step table limit (variable_of table argument)
+tvar_step (Declaring table limit) argument = tvar_text_step table limit (variable_of table argument)
 tvar_step (Open d) argument = (Open d, refused (codes "Late"))

@@ -1,36 +1,44 @@
 -- The events of a console's desk, and its checkpoint, can be in lines of a history.
 use Rattle.std.specs.Prelude.{◌≡◌, ◌≤◌, ℕ, List, [], ◌∷◌, length, IfSome, Ok, ⊤}
+use Rattle.stm_terms.specs.declared.values.Ref.TheVariants.{Old, New}
+use Rattle.stm_terms.specs.declared.values.Value.{Value}
+use Rattle.stm_terms.specs.declared.values.Value.TheVariants as value
+use Rattle.stm_terms.specs.Limits.{most_refs}
+use Rattle.stm_store.specs.Naming.{Named}
 use Rattle.stm_store.specs.Tables.{Declared}
 use Rattle.stm_events.specs.declared.event.Event.{Event}
 use Rattle.stm_events.specs.declared.event.What.{What}
-use Rattle.stm_events.specs.declared.event.What.TheVariants.{Submitted, Installed, Finished, Cancelled}
+use Rattle.stm_events.specs.declared.event.What.TheVariants.{Submitted, Installed, Finished, Cancelled, Declared as DeclaredLate}
 use Rattle.stm_events.specs.SlowDesk as slow
-use Rattle.stm_event_lines.specs.Fits.{Is32Bit, FitNumbers, FitsVerdict, FitsTable}
+use Rattle.stm_event_lines.specs.Fits.{Is32Bit, FitNumbers, FitsNames, FitsVerdict}
 use Rattle.stm_history.specs.Judgement.{AreVariables}
 use Rattle.stm_history.specs.Starts.{BlocksAreOfText}
 use Rattle.stm_event_lines.specs.WholeBlocks.{checked_block}
-use Rattle.stm_desk.specs.DeskView.{DeskView, state_of}
+use Rattle.stm_desk.specs.DeskView.{DeskView, start_state, state_of}
+use Rattle.stm_blocks.specs.DeclaredVariable.{late_variable_of}
 use Rattle.stm_run.specs.Console.{initial_console, state_after}
 use Rattle.stm_run.specs.ConsoleState.{present_desk, table_of, checkpoint_of_console, with_checkpoint}
 use Rattle.stm_run.specs.declared.console.Console.{Console}
 use Rattle.stm_run.specs.Laws.{state_after_lines}
 
 -- ---- what they are of
--- a block that is submitted is what its text checks to over the table
-abbrev pub IsOfText : List Declared → What → Type 0
-IsOfText table (Submitted ticket block) = checked_block table block.text ≡ Ok block
-IsOfText table (Installed ticket v) = ⊤
-IsOfText table (Finished ticket v first_new stale) = ⊤
-IsOfText table (Cancelled ticket) = ⊤
+-- over the names, a block that is submitted is what its text checks to, and a variable is the one that some text declares
+abbrev pub IsOfText : List Named → What → Type 0
+IsOfText known (Submitted ticket block) = checked_block known block.text ≡ Ok block
+IsOfText known (Installed ticket v) = ⊤
+IsOfText known (Finished ticket v first_new stale) = ⊤
+IsOfText known (Cancelled ticket) = ⊤
+IsOfText known (DeclaredLate name kind value) =
+    (text : List ℕ) × (late_variable_of known text ≡ Ok (record { name = name; kind = kind; value = value }))
 
--- each event is of client 0, and of a block of its text
-abbrev pub AreOfConsole : List Declared → List Event → Type 0
-AreOfConsole table [] = ⊤
-AreOfConsole table (e ∷ es) = (e.client ≡ 0) × IsOfText table e.what × AreOfConsole table es
+-- each event, from a state on, is of client 0, and of a text over the names of the state before it
+abbrev pub AreOfConsole : slow.Slow → List Event → Type 0
+AreOfConsole s [] = ⊤
+AreOfConsole s (e ∷ es) = (e.client ≡ 0) × IsOfText s.names e.what × AreOfConsole (slow.after s e.what) es
 
 -- the events of a desk since its last checkpoint are, and each waiting block of that checkpoint is of its text
 abbrev pub IsOfConsole : DeskView → Type 0
-IsOfConsole d = AreOfConsole d.table d.history × IfSome d.checkpoint (BlocksAreOfText d.table)
+IsOfConsole d = AreOfConsole (start_state d) d.history × IfSome d.checkpoint BlocksAreOfText
 
 -- whatever lines came before, and however many events the history may have
 abbrev pub EventsAreOfConsole : Type 0
@@ -38,27 +46,41 @@ EventsAreOfConsole =
     (max_events : ℕ) (before : List (List ℕ))
     → IsOfConsole (present_desk (state_after_lines (initial_console max_events) before)).desk
 
--- each waiting block is what its text checks to over the table
-abbrev pub AreOfTheirTexts : List Declared → List slow.Waiter → Type 0
-AreOfTheirTexts table [] = ⊤
-AreOfTheirTexts table (w ∷ ws) = (checked_block table w.block.text ≡ Ok w.block) × AreOfTheirTexts table ws
+-- each waiting block is what its text checks to over the names
+abbrev pub AreOfTheirTexts : List Named → List slow.Waiter → Type 0
+AreOfTheirTexts known [] = ⊤
+AreOfTheirTexts known (w ∷ ws) = (checked_block known w.block.text ≡ Ok w.block) × AreOfTheirTexts known ws
+
+-- so is each that waits in a state, over its names
+abbrev pub WaitersAreOfText : slow.Slow → Type 0
+WaitersAreOfText s = AreOfTheirTexts s.names s.waiters
 
 -- so is each that waits on the desk of a console
 abbrev pub WaitAsTheirTexts : Console → Type 0
-WaitAsTheirTexts s = AreOfTheirTexts (table_of s) (state_of (present_desk s).desk).waiters
+WaitAsTheirTexts s = WaitersAreOfText (state_of (present_desk s).desk)
 
 -- and stays so, whatever line comes; so a checkpoint that is made then has blocks of their texts
 pub record WaitingStayOfText : Type 0 where
   pub line : (s : Console) (line : List ℕ) → WaitAsTheirTexts s → WaitAsTheirTexts (state_after s line)
-  pub checkpoint : (s : Console) → WaitAsTheirTexts s → IfSome (checkpoint_of_console (with_checkpoint s)) (BlocksAreOfText (table_of s))
+  pub checkpoint : (s : Console) → WaitAsTheirTexts s → IfSome (checkpoint_of_console (with_checkpoint s)) BlocksAreOfText
 
 -- ---- their numbers
--- the ticket, the first new variable and the stale tickets have at most 32 bits
+-- the number of a reference has at most 32 bits
+abbrev pub IsReferenceSmall : Value → Type 0
+IsReferenceSmall (value.Int n) = ⊤
+IsReferenceSmall (value.Bool b) = ⊤
+IsReferenceSmall value.Unit = ⊤
+IsReferenceSmall (value.Var (Old i)) = Is32Bit i
+IsReferenceSmall (value.Var (New k)) = Is32Bit k
+
+-- the ticket, the first new variable and the stale tickets have at most 32 bits; so has a first value that is a reference, and its type
+-- at most 8 `TVar`
 abbrev pub AreNumbersSmall : What → Type 0
 AreNumbersSmall (Submitted ticket block) = Is32Bit ticket
 AreNumbersSmall (Installed ticket v) = Is32Bit ticket
 AreNumbersSmall (Finished ticket v first_new stale) = Is32Bit ticket × Is32Bit first_new × FitNumbers stale
 AreNumbersSmall (Cancelled ticket) = Is32Bit ticket
+AreNumbersSmall (DeclaredLate name kind value) = (kind.refs ≤ most_refs) × IsReferenceSmall value
 
 -- so of each event
 abbrev pub HaveSmallNumbers : List Event → Type 0
@@ -78,23 +100,24 @@ IsVerdictInRange (Submitted ticket block) = ⊤
 IsVerdictInRange (Installed ticket v) = FitsVerdict v
 IsVerdictInRange (Finished ticket v first_new stale) = FitsVerdict v
 IsVerdictInRange (Cancelled ticket) = ⊤
+IsVerdictInRange (DeclaredLate name kind value) = ⊤
 
 -- so of each event
 abbrev pub AreVerdictsInRange : List Event → Type 0
 AreVerdictsInRange [] = ⊤
 AreVerdictsInRange (e ∷ es) = IsVerdictInRange e.what × AreVerdictsInRange es
 
--- each event can be in a line over the table
-abbrev pub EventsFitTable : List Declared → List Event → Type 0
-EventsFitTable table [] = ⊤
-EventsFitTable table (e ∷ es) = FitsTable table e × EventsFitTable table es
+-- each event, from a state on, can be in a line over the names of the state before it
+abbrev pub EventsFitNames : slow.Slow → List Event → Type 0
+EventsFitNames s [] = ⊤
+EventsFitNames s (e ∷ es) = FitsNames s.names e × EventsFitNames (slow.after s e.what) es
 
 -- Whatever lines came before, each event of the desk can be in a line of a history, if the values of its verdict are in range.
 abbrev pub EventsFitLines : Type 0
 EventsFitLines =
     (max_events : ℕ) → max_events ≤ slow.max_events → (before : List (List ℕ))
     → AreVerdictsInRange (present_desk (state_after_lines (initial_console max_events) before)).desk.history
-    → EventsFitTable (present_desk (state_after_lines (initial_console max_events) before)).desk.table
+    → EventsFitNames (start_state (present_desk (state_after_lines (initial_console max_events) before)).desk)
     (present_desk (state_after_lines (initial_console max_events) before)).desk.history
 
 -- ---- the declared variables

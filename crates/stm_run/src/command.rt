@@ -7,6 +7,7 @@ ghost use Rattle.stm_run.specs.Console.{command_words, command_in, command_named
 #[derive(Clone, Copy, PartialEq, Eq, Debug)]
 pub enum Command {
     Tvar,
+    Declare,
     Try,
     Looks,
     Submit,
@@ -29,12 +30,15 @@ pub enum Command {
     Checkpoint,
 }
 
-// The command of a word, of the first six.
-fn of_first_six(word: &[u8]) -> Option<Command>
-    ensures { result ≡ command_in (take 6 command_words) word.now }
+// The command of a word, of the first seven.
+fn of_first_seven(word: &[u8]) -> Option<Command>
+    ensures { result ≡ command_in (take 7 command_words) word.now }
 {
     if word == b"tvar".as_slice() {
         return Some(Command::Tvar);
+    }
+    if word == b"declare".as_slice() {
+        return Some(Command::Declare);
     }
     if word == b"try".as_slice() {
         return Some(Command::Try);
@@ -56,7 +60,7 @@ fn of_first_six(word: &[u8]) -> Option<Command>
 
 // The command of a word, of the next seven.
 fn of_next_seven(word: &[u8]) -> Option<Command>
-    ensures { result ≡ command_in (take 7 (drop 6 command_words)) word.now }
+    ensures { result ≡ command_in (take 7 (drop 7 command_words)) word.now }
 {
     if word == b"history".as_slice() {
         return Some(Command::History);
@@ -84,7 +88,7 @@ fn of_next_seven(word: &[u8]) -> Option<Command>
 
 // The command of a word, of the last eight.
 fn of_last_eight(word: &[u8]) -> Option<Command>
-    ensures { result ≡ command_in (drop 13 command_words) word.now }
+    ensures { result ≡ command_in (drop 14 command_words) word.now }
 {
     if word == b"deliver".as_slice() {
         return Some(Command::Deliver);
@@ -117,7 +121,7 @@ fn of_last_eight(word: &[u8]) -> Option<Command>
 pub fn command_of(word: &[u8]) -> Option<Command>
     ensures { result ≡ command_named word.now }
 {
-    if let Some(command) = of_first_six(word) {
+    if let Some(command) = of_first_seven(word) {
         return Some(command);
     }
     if let Some(command) = of_next_seven(word) {

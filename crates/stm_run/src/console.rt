@@ -111,6 +111,7 @@ fn answer_on_desk_here(
         Command::History => return answer_history(desk, argument, out),
         Command::Events => return answer_events(desk, argument, out),
         Command::Tvar => refuse("Late", out),
+        Command::Declare => desk.answer_declare(alloc, argument, out),
         Command::Try => desk.answer_try(alloc, argument, out),
         Command::Looks => desk.answer_looks(alloc, argument, out),
         Command::Submit => desk.answer_submit(alloc, argument, out),

@@ -3,9 +3,9 @@
 ghost use Rattle.stm_run.specs.Fitting.{EventsAreOfConsole, EventsFitLines, NumbersAreSmall, VariablesFitLines, VariablesStayFit, WaitingStayOfText};
 ghost use Rattle.stm_run.specs.Growing.{ConsolesGrow};
 
-/// Each event of the desk since its last checkpoint is of client 0, and each block that was submitted, and each that waits at the
-/// checkpoint, is what its text checks to over the declared variables, whatever lines came before. So when a history is read again,
-/// its blocks are the same.
+/// Each event of the desk since its last checkpoint is of client 0, each block that was submitted is what its text checks to over the
+/// names that were known then, and each that waits at the checkpoint what its text checks to over the checkpoint's, whatever lines came
+/// before; and each variable that was declared late is the one of a text. So when a history is read again, its blocks are the same.
 pub fn events_are_of_console()
     ensures { EventsAreOfConsole }
 {}
@@ -24,7 +24,7 @@ pub fn variables_stay_fit()
     stm_parse::laws::answers_are_right();
 }
 
-/// A console only adds events, each of client 0 and of a block of its text, and a desk that is open stays open on its table,
+/// A console only adds events, each of client 0 and of its text, and a desk that is open stays open on its table,
 /// whatever line comes; except that a line may make a checkpoint.
 pub fn consoles_grow()
     ensures { ConsolesGrow }
@@ -35,8 +35,8 @@ pub fn waiting_stay_of_text()
     ensures { WaitingStayOfText }
 {}
 
-/// The tickets of the events, the numbers of their first new variables and the tickets that they make stale have at most 32
-/// bits, whatever lines came before.
+/// The tickets of the events, the numbers of their first new variables, the tickets that they make stale and the numbers that a first
+/// value refers to have at most 32 bits, whatever lines came before.
 pub fn numbers_are_small()
     ensures { NumbersAreSmall }
 {
@@ -51,6 +51,7 @@ pub fn numbers_are_small()
 pub fn events_fit_lines()
     ensures { EventsFitLines }
 {
+    stm_parse::laws::answers_are_right();
     events_are_of_console();
     numbers_are_small();
 }
