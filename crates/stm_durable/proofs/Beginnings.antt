@@ -1,8 +1,7 @@
 -- A history that begins in a new file, since the lines before its events are too long for a batch.
 use Rattle.std.proofs.Common.{◌≡◌, ◌⊎◌, inr, ⊎_elim, ℕ, List, [], ◌++◌, Bool, true, false, sym, ◌∙◌, ap, subst}
-use Rattle.std.proofs.lemmas.List.{append-nil}
 use Rattle.stm_events.specs.declared.event.Event.{Event}
-use Rattle.stm_history.specs.HistoryText.{start_text, history_text}
+use Rattle.stm_history.specs.HistoryText.{history_text}
 use Rattle.stm_history.specs.Starts.{Start}
 use Rattle.stm_journal.specs.declared.sync_mode.SyncMode.{SyncMode}
 use Rattle.stm_journal.specs.declared.sync_mode.SyncMode.TheVariants.{Full, Append, Never}
@@ -15,14 +14,14 @@ use Rattle.stm_durable.specs.declared.recording.HistoryFile.{HistoryFile}
 use Rattle.stm_durable.proofs.Crashes.{stays_left, if_synced, nothing_dropped}
 
 -- the text of a history with no events
-pub text_alone : (start : Start) (history : List Event) → history ≡ [] → history_text start (history ++ []) ≡ start_text start
-text_alone start history none = ap (λ (es : List Event). history_text start (es ++ [])) none ∙ append-nil (start_text start)
+pub text_alone : (start : Start) (history : List Event) → history ≡ [] → history_text start (history ++ []) ≡ history_text start []
+text_alone start history none = ap (λ (es : List Event). history_text start (es ++ [])) none
 
-all_lines : (begun : Bool) (start : Start) (history : List Event) (c : List ℕ) → history ≡ [] → IsWhole c → c ≡ start_text start → HasAllEventsOrNone begun start history [] c
+all_lines : (begun : Bool) (start : Start) (history : List Event) (c : List ℕ) → history ≡ [] → IsWhole c → c ≡ history_text start [] → HasAllEventsOrNone begun start history [] c
 all_lines begun start history c none is text =
     record { lines = inr (recovered_whole c is ∙ text ∙ sym (text_alone start history none)); dropped = nothing_dropped c is }
 
-text_left : (s : SyncMode) (zeros begun : Bool) (start : Start) (history : List Event) (c : List ℕ) → begun ≡ false → history ≡ [] → IsWhole c → c ≡ start_text start
+text_left : (s : SyncMode) (zeros begun : Bool) (start : Start) (history : List Event) (c : List ℕ) → begun ≡ false → history ≡ [] → IsWhole c → c ≡ history_text start []
     → LeavesHistory s zeros begun start history [] c
 text_left Full zeros begun start history c first none is text = all_lines begun start history c none is text
 text_left Append zeros false start history c first none is text = all_lines false start history c none is text
@@ -30,8 +29,8 @@ text_left Append zeros true start history c first none is text = absurd (cc firs
 text_left Never zeros begun start history c first none is text = tt
 
 module _ {D : Type 0} (disk : Disk D) (f : HistoryFile D) (start : Start) (history : List Event) (first : f.begun ≡ false) (keeps : HistoryKept disk f start history)
-    (whole : IsWhole (start_text start)) where
-  all_left : (c : List ℕ) → c ≡ start_text start → MayBecome disk f start history [] c
+    (whole : IsWhole (history_text start [])) where
+  all_left : (c : List ℕ) → c ≡ history_text start [] → MayBecome disk f start history [] c
   all_left c text =
       text_left f.journal.sync disk.fills_with_zeros f.begun start history c first (keeps.none first) (subst IsWhole (sym text) whole) text
 
@@ -41,13 +40,13 @@ module _ {D : Type 0} (disk : Disk D) (f : HistoryFile D) (start : Start) (histo
       (λ some. subst (MayBecome disk f start history []) (sym (keeps.at_rest.durable some c left)) (stays_left disk f start history [] keeps))
 
   -- while a new file takes the place of the old one
-  pub begun_run : (new : D) → LeavesOnly disk f.journal.device new (λ c. disk.may_leave f.journal.device c ⊎ (c ≡ start_text start))
+  pub begun_run : (new : D) → LeavesOnly disk f.journal.device new (λ c. disk.may_leave f.journal.device c ⊎ (c ≡ history_text start []))
       → LeavesOnly disk f.journal.device new (MayBecome disk f start history [])
   begun_run new run =
-      weaker disk f.journal.device new (λ c. disk.may_leave f.journal.device c ⊎ (c ≡ start_text start)) (MayBecome disk f start history []) run
+      weaker disk f.journal.device new (λ c. disk.may_leave f.journal.device c ⊎ (c ≡ history_text start [])) (MayBecome disk f start history []) run
       (λ c h. ⊎_elim (old_left c) (all_left c) h)
 
   -- and after it, or after an error
-  pub begun_left : (c : List ℕ) → (c ≡ disk.seen f.journal.device) ⊎ (c ≡ start_text start) → MayBecome disk f start history [] c
+  pub begun_left : (c : List ℕ) → (c ≡ disk.seen f.journal.device) ⊎ (c ≡ history_text start []) → MayBecome disk f start history [] c
   begun_left c h =
       ⊎_elim (λ same. subst (MayBecome disk f start history []) (sym same) (stays_left disk f start history [] keeps)) (all_left c) h

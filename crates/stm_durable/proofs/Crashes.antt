@@ -2,6 +2,7 @@
 use Rattle.std.proofs.Common.{◌≡◌, ◌≢◌, ◌⊎◌, inl, inr, ⊎_elim, ℕ, ◌≤◌, List, [], ◌++◌, length, take, drop, Bool, true, false, refl, sym, ◌∙◌, ap, subst, arith}
 use Rattle.std.proofs.lemmas.List.{append-nil}
 use Rattle.stm_events.specs.declared.event.Event.{Event}
+use Rattle.stm_events.specs.SlowDesk.{Slow}
 use Rattle.stm_history.specs.HistoryText.{history_text, event_lines}
 use Rattle.stm_history.specs.Starts.{Start}
 use Rattle.stm_journal.specs.declared.sync_mode.SyncMode.{SyncMode}
@@ -26,22 +27,22 @@ all_or_none begun start history events text batch c is longer small h = record {
   dropped = omega (arith, h.dropped, small);
 }
 
-leaves_batch : (s : SyncMode) (zeros begun : Bool) (start : Start) (history events : List Event) (text batch c : List ℕ) → text ≡ file_text begun start history
-    → text ++ batch ≡ history_text start (history ++ events) → batch ≡ batch_text begun start events → AreFit start.table events → length batch ≤ most_batch
-    → MayLeave (batch_sync s begun) zeros text batch c → LeavesHistory s zeros begun start history events c
-leaves_batch Full zeros begun start history events text batch c is longer parts fit small h = all_or_none begun start history events text batch c is longer small h
-leaves_batch Append zeros false start history events text batch c is longer parts fit small h = all_or_none false start history events text batch c is longer small h
-leaves_batch Append true true start history events text batch c is longer parts fit small h =
-    let first = first_of start.table events h.count fit (subst (λ (l : List ℕ). IsWhole (take h.count l)) parts h.front) in
+leaves_batch : (sync : SyncMode) (zeros begun : Bool) (start : Start) (history events : List Event) (text batch c : List ℕ) → text ≡ file_text begun start history
+    → text ++ batch ≡ history_text start (history ++ events) → batch ≡ batch_text begun start events → (s : Slow) → AreFit start.format s events → length batch ≤ most_batch
+    → MayLeave (batch_sync sync begun) zeros text batch c → LeavesHistory sync zeros begun start history events c
+leaves_batch Full zeros begun start history events text batch c is longer parts s fit small h = all_or_none begun start history events text batch c is longer small h
+leaves_batch Append zeros false start history events text batch c is longer parts s fit small h = all_or_none false start history events text batch c is longer small h
+leaves_batch Append true true start history events text batch c is longer parts s fit small h =
+    let first = first_of start.format s events h.count fit (subst (λ (l : List ℕ). IsWhole (take h.count l)) parts h.front) in
     record {
       count = first.count;
       lines = h.lines ∙ ap (λ (l : List ℕ). text ++ take h.count l) parts ∙ ap (λ (l : List ℕ). text ++ l) first.lines
           ∙ ap (λ (l : List ℕ). l ++ event_lines (take first.count events)) is ∙ longer_text start history (take first.count events);
       dropped = omega (arith, h.dropped, small);
     }
-leaves_batch Append false true start history events text batch c is longer parts fit small h =
+leaves_batch Append false true start history events text batch c is longer parts s fit small h =
     record { more = h.more; lines = h.lines ∙ ap (λ (l : List ℕ). l ++ h.more) is; dropped = omega (arith, h.dropped, small) }
-leaves_batch Never zeros begun start history events text batch c is longer parts fit small h = tt
+leaves_batch Never zeros begun start history events text batch c is longer parts s fit small h = tt
 
 -- ---- what is left if nothing was written
 
@@ -133,19 +134,20 @@ module _ {D : Type 0} (disk : Disk D) (f : HistoryFile D) (start : Start) (histo
         ap (λ (l : List ℕ). l ++ batch) keeps.text ∙ ap (λ (l : List ℕ). file_text f.begun start history ++ l) is
         ∙ file_text-batch f.begun start history events keeps.none
 
-    pub recorded : (new : HistoryFile D) → new.begun ≡ true → AtRest disk new.journal.device new.journal.sync new.journal.len
+    pub recorded : (new : HistoryFile D) → new.begun ≡ true → new.format ≡ start.format → AtRest disk new.journal.device new.journal.sync new.journal.len
         → disk.seen new.journal.device ≡ disk.seen f.journal.device ++ batch → HistoryKept disk new start (history ++ events)
-    recorded new begun at_rest text = record {
+    recorded new begun format at_rest text = record {
       at_rest = at_rest;
       text = text ∙ longer ∙ ap (λ (b : Bool). file_text b start (history ++ events)) (sym begun);
       none = λ e. absurd (cc (e, begun));
+      format_is = λ e. format;
     }
 
-    module _ (fit : AreFit start.table events) (small : length batch ≤ most_batch) where
+    module _ (s : Slow) (fit : AreFit start.format s events) (small : length batch ≤ most_batch) where
       pub left : (c : List ℕ) → MayLeave (batch_sync f.journal.sync f.begun) disk.fills_with_zeros (disk.seen f.journal.device) batch c
           → MayBecome disk f start history events c
       left c h =
-          leaves_batch f.journal.sync disk.fills_with_zeros f.begun start history events (disk.seen f.journal.device) batch c keeps.text longer is fit small h
+          leaves_batch f.journal.sync disk.fills_with_zeros f.begun start history events (disk.seen f.journal.device) batch c keeps.text longer is s fit small h
 
       pub leaves : (new : D) → LeavesOnly disk f.journal.device new (MayLeave (batch_sync f.journal.sync f.begun) disk.fills_with_zeros (disk.seen f.journal.device) batch)
           → LeavesOnly disk f.journal.device new (MayBecome disk f start history events)

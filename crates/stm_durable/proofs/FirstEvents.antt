@@ -1,8 +1,8 @@
 -- A front of the lines of events that is whole lines is the lines of the first events.
 use Rattle.std.proofs.Common.{◌≡◌, ℕ, zero, suc, ◌+◌, ◌≤◌, List, [], ◌∷◌, ◌++◌, length, take, refl, sym, ◌∙◌, ap, subst, arith, ◌⊎◌, inl, inr, length-append}
 use Rattle.std.proofs.lemmas.List.{take-append-le}
-use Rattle.stm_store.specs.Tables.{Declared}
 use Rattle.stm_events.specs.declared.event.Event.{Event}
+use Rattle.stm_events.specs.SlowDesk.{Slow, after}
 use Rattle.stm_event_lines.specs.Fits.{IsOneLine}
 use Rattle.stm_history.specs.HistoryText.{event_lines}
 use Rattle.stm_event_lines.specs.Lines.{event_line}
@@ -53,12 +53,12 @@ within_or_after (suc n) (suc k) = elim (within_or_after n k) [
   | inr more ↦ inr (more.0, omega (arith, more.1))
 ]
 
-pub first_of : (table : List Declared) (events : List Event) (n : ℕ) → AreFit table events → IsWhole (take n (event_lines events)) → AreFirst events (take n (event_lines events))
-first_of table [] zero fit is = record { count = 0; lines = refl }
-first_of table [] (suc n) fit is = record { count = 0; lines = refl }
-first_of table (e ∷ es) n fit is =
+pub first_of : (format : ℕ) (s : Slow) (events : List Event) (n : ℕ) → AreFit format s events → IsWhole (take n (event_lines events)) → AreFirst events (take n (event_lines events))
+first_of format s [] zero fit is = record { count = 0; lines = refl }
+first_of format s [] (suc n) fit is = record { count = 0; lines = refl }
+first_of format s (e ∷ es) n fit is =
     let line = event_line e in
-    let plain = event_one_line table e fit.0 in
+    let plain = event_one_line s.names e fit.0 in
     elim (within_or_after n (length line)) [
       | inl le ↦
           let front : take n (line ++ 10 ∷ event_lines es) ≡ take n line = take-append-le n line (10 ∷ event_lines es) le in
@@ -70,7 +70,7 @@ first_of table (e ∷ es) n fit is =
           let count = count_line line (take m (event_lines es)) (event_brace e) plain in
           let whole : IsWhole (line ++ 10 ∷ take m (event_lines es)) = subst IsWhole front is in
           let rest : IsWhole (take m (event_lines es)) = omega (arith, count, whole, length-append line (10 ∷ take m (event_lines es))) in
-          subst (AreFirst (e ∷ es)) (sym front) (one_more e es (take m (event_lines es)) (first_of table es m fit.1 rest))
+          subst (AreFirst (e ∷ es)) (sym front) (one_more e es (take m (event_lines es)) (first_of format (after s e.what) es m fit.2 rest))
     ]
   where
     after_line : (line more : List ℕ) (n m : ℕ) → n ≡ length line + 1 + m → take n (line ++ 10 ∷ more) ≡ line ++ 10 ∷ take m more

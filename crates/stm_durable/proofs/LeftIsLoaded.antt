@@ -1,14 +1,13 @@
 -- What a crash leaves is the text of a history that is loaded.
 use Rattle.std.proofs.Common.{◌≡◌, ◌⊎◌, inl, inr, ℕ, zero, suc, List, [], ◌∷◌, ◌++◌, length, take, drop, Bool, true, false, refl, sym, ◌∙◌, ap, subst, arith, length-append}
 use Rattle.std.proofs.lemmas.List.{append-nil, append_assoc, take-append-drop}
-use Rattle.stm_store.specs.Tables.{Declared}
 use Rattle.stm_events.specs.declared.event.Event.{Event}
-use Rattle.stm_events.specs.SlowDesk.{Slow, LegalFrom, after}
+use Rattle.stm_events.specs.SlowDesk.{Slow, LegalFrom, after, state_from}
 use Rattle.stm_events.specs.States.{IsLegalFrom}
 use Rattle.stm_history.specs.HistoryText.{history_text, start_text}
 use Rattle.stm_history.specs.Judgement.{AreEvents}
 use Rattle.stm_history.specs.Loading.{IsWholeHistory}
-use Rattle.stm_history.specs.Starts.{Start, first_state, read_back}
+use Rattle.stm_history.specs.Starts.{Start, first_state, read_back, state_after_start}
 use Rattle.stm_history.proofs.KeptIsTaken.{what_is_kept_is_taken}
 use Rattle.stm_journal.specs.Text.{IsWhole, recovered}
 use Rattle.stm_journal.proofs.Wholes.{recovered_whole}
@@ -19,14 +18,14 @@ take_all : (xs : List Event) → take (length xs) xs ≡ xs
 take_all [] = refl
 take_all (x ∷ xs) = ap (λ (l : List Event). x ∷ l) (take_all xs)
 
-AreEvents-append : (format : ℕ) (table : List Declared) (xs ys : List Event) → AreEvents format table xs → AreEvents format table ys → AreEvents format table (xs ++ ys)
-AreEvents-append format table [] ys h k = k
-AreEvents-append format table (x ∷ xs) ys h k = (h.0, h.1, h.2, AreEvents-append format table xs ys h.3 k)
+AreEvents-append : (format : ℕ) (s : Slow) (xs ys : List Event) → AreEvents format s xs → AreEvents format (state_from s xs) ys → AreEvents format s (xs ++ ys)
+AreEvents-append format s [] ys h k = k
+AreEvents-append format s (x ∷ xs) ys h k = (h.0, h.1, h.2, AreEvents-append format (after s x.what) xs ys h.3 k)
 
-AreEvents-take : (format : ℕ) (table : List Declared) (n : ℕ) (xs : List Event) → AreEvents format table xs → AreEvents format table (take n xs)
-AreEvents-take format table zero xs h = tt
-AreEvents-take format table (suc n) [] h = tt
-AreEvents-take format table (suc n) (x ∷ xs) h = (h.0, h.1, h.2, AreEvents-take format table n xs h.3)
+AreEvents-take : (format : ℕ) (s : Slow) (n : ℕ) (xs : List Event) → AreEvents format s xs → AreEvents format s (take n xs)
+AreEvents-take format s zero xs h = tt
+AreEvents-take format s (suc n) [] h = tt
+AreEvents-take format s (suc n) (x ∷ xs) h = (h.0, h.1, h.2, AreEvents-take format (after s x.what) n xs h.3)
 
 -- a front of a legal history is legal
 legal_front : (s : Slow) (xs ys : List Event) → LegalFrom s (xs ++ ys) → LegalFrom s xs
@@ -44,8 +43,8 @@ is_history start history events n text is may =
     let parts : some ++ drop n events ≡ history ++ events =
     append_assoc history (take n events) (drop n events) ∙ ap (λ (l : List Event). history ++ l) (take-append-drop n events) in
     subst (λ (t : List ℕ). IsWholeHistory (read_back start) t some) (sym is)
-    (what_is_kept_is_taken start some begins.written begins.fits begins.short
-    (AreEvents-append start.format start.table history (take n events) may.old (AreEvents-take start.format start.table n events may.new))
+    (what_is_kept_is_taken start some begins.format_fits begins.fits begins.short
+    (AreEvents-append start.format (first_state start) history (take n events) may.old (AreEvents-take start.format (state_after_start start history) n events may.new))
     (front_is_legal (first_state start) some (drop n events) (subst (IsLegalFrom (first_state start)) (sym parts) may.legal)))
 
 pub all_or_none_is_resumed : AllOrNoneIsResumed
@@ -80,9 +79,9 @@ first_are_resumed start history events file left may = (left.count, is_history s
 pub checkpoint_is_resumed : CheckpointIsResumed
 checkpoint_is_resumed start file begins is =
     let none : start_text start ≡ history_text start [] = sym (append-nil (start_text start)) in
-    let whole : IsWhole file = subst IsWhole (sym (is ∙ ap start_text begins.written)) (IsWhole-start start.table start.checkpoint begins.fits) in
+    let whole : IsWhole file = subst IsWhole (sym is) (IsWhole-start start.format start.table start.checkpoint begins.format_fits begins.fits) in
     let all = recovered_whole file whole in (
       subst (λ (t : List ℕ). IsWholeHistory (read_back start) t []) (sym (all ∙ is ∙ none))
-          (what_is_kept_is_taken start [] begins.written begins.fits begins.short tt (record { each = tt; few = omega arith })),
+          (what_is_kept_is_taken start [] begins.format_fits begins.fits begins.short tt (record { each = tt; few = omega arith })),
       omega (arith, whole),
     )

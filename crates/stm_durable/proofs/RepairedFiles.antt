@@ -10,16 +10,17 @@ use Rattle.stm_journal.specs.Journal.{AtRest}
 use Rattle.stm_durable.specs.Durable.{LoadedKept, HistoryKept, LoadsFront, file_text}
 use Rattle.stm_durable.specs.declared.recording.HistoryFile.{HistoryFile}
 
-pub has_loaded : {D : Type 0} (disk : Disk D) (new : HistoryFile D) (front : List ℕ) (loaded : Option Loaded) → new.begun ≡ is_some loaded → LoadsFront front loaded
+pub has_loaded : {D : Type 0} (disk : Disk D) (new : HistoryFile D) (front : List ℕ) (loaded : Option Loaded) → new.begun ≡ is_some loaded → ((h : Loaded) → loaded ≡ Some h → new.format ≡ h.format) → LoadsFront front loaded
     → disk.seen new.journal.device ≡ front → AtRest disk new.journal.device new.journal.sync new.journal.len → LoadedKept disk new loaded
-has_loaded disk new front None b l is rest =
-    (b, λ start. record { at_rest = rest; text = is ∙ l ∙ ap (λ (b : Bool). file_text b start []) (sym b); none = λ e. refl })
-has_loaded disk new front (Some h) b l is rest = (
+has_loaded disk new front None b f l is rest =
+    (b, λ start. record { at_rest = rest; text = is ∙ l ∙ ap (λ (b : Bool). file_text b start []) (sym b); none = λ e. refl; format_is = λ e. absurd (cc (e, b)) })
+has_loaded disk new front (Some h) b f l is rest = (
   b,
   record {
     at_rest = rest;
     text = is ∙ l.text ∙ append-nil _ ∙ ap (λ (b : Bool). file_text b (loaded_start h) h.events.items) (sym b);
     none = λ e. absurd (cc (e, b));
+    format_is = λ e. f h refl;
   },
 )
 

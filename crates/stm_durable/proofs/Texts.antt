@@ -1,22 +1,24 @@
 -- The text of a history is whole lines that begin with `{`.
-use Rattle.std.proofs.Common.{◌≡◌, ◌≢◌, ℕ, suc, ◌+◌, ◌≤◌, List, [], ◌∷◌, ◌++◌, length, take, Bool, true, false, Option, Some, None, refl, sym, ◌∙◌, ap, subst, arith, length-append, append_assoc}
+use Rattle.std.proofs.Common.{◌≡◌, ℕ, zero, suc, ◌+◌, ◌≤◌, List, [], ◌∷◌, ◌++◌, length, take, Bool, true, false, Option, Some, None, refl, sym, ◌∙◌, ap, subst, arith, length-append, append_assoc}
+use Rattle.std.specs.Prelude.{slice_get, nat_eq, if◌then◌else◌, IsTrue}
 use Rattle.std.proofs.lemmas.List.{length-map}
 use Rattle.json.specs.Print.{escape_byte}
 use Rattle.stm_store.specs.declared.cell.Cell.{Cell}
 use Rattle.stm_store.specs.Cells.{plain}
+use Rattle.stm_terms.specs.Names.{is_name_text}
+use Rattle.stm_store.specs.Naming.{AreKnown, Named, name_numbered}
 use Rattle.stm_store.specs.Tables.{Declared}
 use Rattle.stm_events.specs.declared.event.Event.{Event}
-use Rattle.stm_events.specs.declared.event.What.{What}
-use Rattle.stm_events.specs.declared.event.What.TheVariants.{Submitted, Installed, Finished, Cancelled}
+use Rattle.stm_events.specs.SlowDesk.{Slow, after}
 use Rattle.stm_machine.specs.declared.checkpoint.CheckpointBlock.{CheckpointBlock}
 use Rattle.stm_machine.specs.Checkpoints.{CheckpointView}
-use Rattle.stm_event_lines.specs.Fits.{Is32Bit, WhatFitsFormat, IsOneLine, BeginsWithBrace}
-use Rattle.stm_history.specs.HistoryText.{variable_lines, event_lines, head_text, cell_lines, cells_text, block_line, block_lines, checkpoint_text, history_text, start_text, text_before}
-use Rattle.stm_history.specs.Judgement.{AreVariables, AreVariablesFrom, AreEvents, FitCells, FitBlocks, CheckpointFits, FitsBefore, IsBefore, StartFits}
+use Rattle.stm_event_lines.specs.Fits.{Is32Bit, IsOneLine, BeginsWithBrace}
+use Rattle.stm_history.specs.HistoryText.{variable_lines, event_lines, head_text, cell_lines, cell_lines_from, cells_text, block_line, block_lines, checkpoint_text, history_text, start_text, text_before}
+use Rattle.stm_history.specs.Judgement.{AreVariables, AreVariablesFrom, AreEvents, FitCells, FitBlocks, CheckpointFits, FitsBefore, FormatFits, IsBefore}
 use Rattle.stm_history.specs.Loading.{HasText}
-use Rattle.stm_history.specs.Starts.{Start, delivery_of_block, written_start}
-use Rattle.stm_event_lines.specs.Lines.{latest_format, IsFormat, event_line, header_line, variable_line}
-use Rattle.stm_event_lines.specs.CheckpointLines.{FitsCell, cell_line, checkpoint_header_line}
+use Rattle.stm_history.specs.Starts.{Start, delivery_of_block, first_state}
+use Rattle.stm_event_lines.specs.Lines.{IsFormat, event_line, header_line, variable_line}
+use Rattle.stm_event_lines.specs.CheckpointLines.{FitsCell, FitsName, IsCheckpointFormat, cell_line, checkpoint_header_line}
 use Rattle.stm_history.proofs.Braces.{event_brace, header_brace, variable_brace, checkpoints_begin_with_braces}
 use Rattle.stm_history.proofs.WrittenIsTaken.{few_variables}
 use Rattle.stm_event_lines.proofs.Checkpoints.{cell_one_line, checkpoint_header_one_line, waiting_one_line}
@@ -45,9 +47,10 @@ count_line line more opens plain =
 IsWhole-line : (line more : List ℕ) → BeginsWithBrace line → IsOneLine line → IsWhole more → IsWhole (line ++ 10 ∷ more)
 IsWhole-line line more opens plain is = omega (arith, count_line line more opens plain, is, length-append line (10 ∷ more))
 
-pub IsWhole-events : (table : List Declared) (events : List Event) → AreFit table events → IsWhole (event_lines events)
-IsWhole-events table [] fit = refl
-IsWhole-events table (e ∷ es) fit = IsWhole-line (event_line e) (event_lines es) (event_brace e) (event_one_line table e fit.0) (IsWhole-events table es fit.1)
+pub IsWhole-events : (format : ℕ) (s : Slow) (events : List Event) → AreFit format s events → IsWhole (event_lines events)
+IsWhole-events format s [] fit = refl
+IsWhole-events format s (e ∷ es) fit =
+    IsWhole-line (event_line e) (event_lines es) (event_brace e) (event_one_line s.names e fit.0) (IsWhole-events format (after s e.what) es fit.2)
 
 -- ---- the lines before the events
 IsWhole-variables : (prior table : List Declared) → AreVariablesFrom prior table → IsWhole (variable_lines table)
@@ -55,55 +58,58 @@ IsWhole-variables prior [] are = refl
 IsWhole-variables prior (d ∷ ds) are =
     IsWhole-line (variable_line d) (variable_lines ds) (variable_brace d) (variable_one_line d (are.0).fits) (IsWhole-variables (prior ++ d ∷ []) ds are.1)
 
-IsWhole-head : (table : List Declared) → AreVariables table → IsWhole (head_text latest_format (length table) table)
-IsWhole-head table are =
-    let known : IsFormat latest_format = (omega arith, omega arith) in
+IsWhole-head : (format : ℕ) (table : List Declared) → IsFormat format → AreVariables table → IsWhole (head_text format (length table) table)
+IsWhole-head format table known are =
     let few = few_variables table are in
-    IsWhole-line (header_line latest_format (length table)) (variable_lines table) (header_brace latest_format (length table))
-    (header_one_line latest_format (length table) known (omega (arith, few))) (IsWhole-variables [] table are)
+    IsWhole-line (header_line format (length table)) (variable_lines table) (header_brace format (length table))
+    (header_one_line format (length table) known (omega (arith, few))) (IsWhole-variables [] table are)
 
-IsWhole-cells : (prior table : List Declared) (cells : List Cell) → AreVariablesFrom prior table → FitCells cells → IsWhole (cell_lines table cells)
-IsWhole-cells prior table [] are fit = refl
-IsWhole-cells prior [] (c ∷ cs) are fit =
-    IsWhole-line (cell_line None c) (cell_lines [] cs) (checkpoints_begin_with_braces.1 None c) (cell_one_line None c fit.0) (IsWhole-cells prior [] cs are fit.1)
-IsWhole-cells prior (d ∷ ds) (c ∷ cs) are fit =
-    let named : FitsCell (Some d.name) c = let f = fit.0 in ((are.0).fits.0, f.1, f.2, f.3) in
-    IsWhole-line (cell_line (Some d.name) c) (cell_lines ds cs) (checkpoints_begin_with_braces.1 (Some d.name) c) (cell_one_line (Some d.name) c named)
-    (IsWhole-cells (prior ++ d ∷ []) ds cs are.1 fit.1)
+-- each name that a number has is a name
+name_by : (b : Bool) (d : Named) (o : Option (List ℕ)) → IsTrue (is_name_text d.name) → FitsName o → FitsName (if b then Some d.name else o)
+name_by true d o name more = name
+name_by false d o name more = more
 
-IsWhole-blocks : (table : List Declared) (blocks : List CheckpointBlock) → FitBlocks table blocks → IsWhole (block_lines blocks)
-IsWhole-blocks table [] fit = refl
-IsWhole-blocks table (b ∷ bs) fit =
-    IsWhole-line (block_line b) (block_lines bs) (checkpoints_begin_with_braces.2 b.ticket b.waiting.block.text (delivery_of_block b)) (waiting_one_line table b.ticket b.waiting.block (delivery_of_block b) fit.0)
-    (IsWhole-blocks table bs fit.1)
+name_fits : (i : ℕ) (names : List Named) → ((j : ℕ) (d : Named) → slice_get names j ≡ Some d → IsTrue (is_name_text d.name)) → FitsName (name_numbered i names)
+name_fits i [] named = tt
+name_fits i (d ∷ names) named = name_by (nat_eq d.number i) d (name_numbered i names) (named zero d refl) (name_fits i names (λ j x e. named (suc j) x e))
 
-IsWhole-checkpoint : (table : List Declared) (c : CheckpointView) → CheckpointFits table c → IsWhole (checkpoint_text (length c.blocks) table c)
-IsWhole-checkpoint table c fits =
-    let is = fits.may.0 in
+IsWhole-cells : (i : ℕ) (names : List Named) (cells : List Cell) → AreKnown names → FitCells cells → IsWhole (cell_lines_from i names cells)
+IsWhole-cells i names [] known fit = refl
+IsWhole-cells i names (c ∷ cs) known fit =
+    let f = fit.0 in
+    let named : FitsCell (name_numbered i names) c = (name_fits i names known.named, f.1, f.2, f.3) in
+    IsWhole-line (cell_line (name_numbered i names) c) (cell_lines_from (i + 1) names cs) (checkpoints_begin_with_braces.1 (name_numbered i names) c)
+    (cell_one_line (name_numbered i names) c named) (IsWhole-cells (i + 1) names cs known fit.1)
+
+IsWhole-blocks : (names : List Named) (blocks : List CheckpointBlock) → FitBlocks names blocks → IsWhole (block_lines blocks)
+IsWhole-blocks names [] fit = refl
+IsWhole-blocks names (b ∷ bs) fit =
+    IsWhole-line (block_line b) (block_lines bs) (checkpoints_begin_with_braces.2 b.ticket b.waiting.block.text (delivery_of_block b)) (waiting_one_line names b.ticket b.waiting.block (delivery_of_block b) fit.0)
+    (IsWhole-blocks names bs fit.1)
+
+IsWhole-checkpoint : (format : ℕ) (c : CheckpointView) → IsCheckpointFormat format → CheckpointFits c → IsWhole (checkpoint_text format (length c.blocks) c)
+IsWhole-checkpoint format c known fits =
+    let is = fits.checkpoint in
     let cells : Is32Bit (length c.store) = omega (arith, (is.store).small, length-map c.store plain) in
-    let header = checkpoint_header_one_line c.next (length c.store) (length c.blocks) (omega (arith, is.tickets)) cells (omega (arith, is.few)) in
-    IsWhole-append (cells_text c.next (length c.store) (length c.blocks) table c.store) (block_lines c.blocks)
-    (IsWhole-line (checkpoint_header_line c.next (length c.store) (length c.blocks)) (cell_lines table c.store)
-    (checkpoints_begin_with_braces.0 c.next (length c.store) (length c.blocks)) header (IsWhole-cells [] table c.store fits.variables fits.cells))
-    (IsWhole-blocks table c.blocks fits.blocks)
+    let header = checkpoint_header_one_line format c.next (length c.store) (length c.blocks) known (omega (arith, is.tickets)) cells (omega (arith, is.few)) in
+    IsWhole-append (cells_text format c.next (length c.store) (length c.blocks) c.names c.store) (block_lines c.blocks)
+    (IsWhole-line (checkpoint_header_line format c.next (length c.store) (length c.blocks)) (cell_lines c.names c.store)
+    (checkpoints_begin_with_braces.0 format c.next (length c.store) (length c.blocks)) header (IsWhole-cells 0 c.names c.store fits.known fits.cells))
+    (IsWhole-blocks c.names c.blocks fits.blocks)
 
-pub IsWhole-start : (table : List Declared) (o : Option CheckpointView) → FitsBefore table o → IsWhole (start_text (written_start table o))
-IsWhole-start table None fits = IsWhole-head table fits
-IsWhole-start table (Some c) fits = IsWhole-checkpoint table c fits
+pub IsWhole-start : (format : ℕ) (table : List Declared) (o : Option CheckpointView) → FormatFits format o → FitsBefore table o → IsWhole (text_before format table o)
+IsWhole-start format table None known fits = IsWhole-head format table known fits
+IsWhole-start format table (Some c) known fits = IsWhole-checkpoint format c known.0 fits
 
-pub IsWhole-written : (table : List Declared) (o : Option CheckpointView) → StartFits (written_start table o) → IsWhole (start_text (written_start table o))
-IsWhole-written table None fits = IsWhole-start table None fits
-IsWhole-written table (Some c) fits = IsWhole-start table (Some c) fits
+pub IsWhole-history : (start : Start) (s : Slow) (events : List Event) → FitLines start s events → IsWhole (history_text start events)
+IsWhole-history start s events fit =
+    IsWhole-append (start_text start) (event_lines events) (IsWhole-start start.format start.table start.checkpoint fit.format_fits fit.start_fits)
+    (IsWhole-events start.format s events fit.fit)
 
 -- ---- batches
-pub IsWhole-batch : (begun : Bool) (table : List Declared) (o : Option CheckpointView) (events : List Event) → FitLines (written_start table o) events
-    → IsWhole (batch_text begun (written_start table o) events)
-IsWhole-batch true table None events fit = IsWhole-events table events fit.fit
-IsWhole-batch true table (Some c) events fit = IsWhole-events table events fit.fit
-IsWhole-batch false table None events fit =
-    IsWhole-append (start_text (written_start table None)) (event_lines events) (IsWhole-start table None fit.start_fits) (IsWhole-events table events fit.fit)
-IsWhole-batch false table (Some c) events fit =
-    IsWhole-append (start_text (written_start table (Some c))) (event_lines events) (IsWhole-start table (Some c) fit.start_fits) (IsWhole-events table events fit.fit)
+pub IsWhole-batch : (begun : Bool) (start : Start) (s : Slow) (events : List Event) → FitLines start s events → IsWhole (batch_text begun start events)
+IsWhole-batch true start s events fit = IsWhole-events start.format s events fit.fit
+IsWhole-batch false start s events fit = IsWhole-history start s events fit
 
 pub event_lines-append : (xs ys : List Event) → event_lines (xs ++ ys) ≡ event_lines xs ++ event_lines ys
 event_lines-append [] ys = refl
@@ -122,45 +128,35 @@ pub file_text-batch : (begun : Bool) (start : Start) (history events : List Even
 file_text-batch true start history events none = longer_text start history events
 file_text-batch false start history events none = ap (λ (h : List Event). history_text start (h ++ events)) (sym (none refl))
 
--- each event may be in a format with every action
-fits_what : (format : ℕ) (what : What) → format ≢ 1 → WhatFitsFormat format what
-fits_what format (Submitted ticket block) later = λ e. absurd (later e)
-fits_what format (Installed ticket v) later = tt
-fits_what format (Finished ticket v first_new stale) later = tt
-fits_what format (Cancelled ticket) later = tt
-
 -- the lines of a batch are short
-events_short : (format : ℕ) (table : List Declared) (events : List Event) → format ≢ 1 → AreFit table events → length (event_lines events) ≤ most_batch
-    → AreEvents format table events
-events_short format table [] later fit small = tt
-events_short format table (e ∷ es) later fit small =
+events_short : (format : ℕ) (s : Slow) (events : List Event) → AreFit format s events → length (event_lines events) ≤ most_batch → AreEvents format s events
+events_short format s [] fit small = tt
+events_short format s (e ∷ es) fit small =
     let l = length-append (event_line e) (10 ∷ event_lines es) in
-    (fit.0, fits_what format e.what later, omega (arith, l, small), events_short format table es later fit.1 (omega (arith, l, small)))
+    (fit.0, fit.1, omega (arith, l, small), events_short format (after s e.what) es fit.2 (omega (arith, l, small)))
 
 batch_no_shorter : (begun : Bool) (start : Start) (events : List Event) → length (event_lines events) ≤ length (batch_text begun start events)
 batch_no_shorter true start events = omega arith
 batch_no_shorter false start events = omega (arith, length-append (start_text start) (event_lines events))
 
-pub batch_short : (begun : Bool) (table : List Declared) (o : Option CheckpointView) (events : List Event) → FitLines (written_start table o) events
-    → length (batch_text begun (written_start table o) events) ≤ most_batch → AreEvents (written_start table o).format table events
-batch_short begun table None events fit small =
-    events_short _ table events (λ e. omega (arith, e)) fit.fit (omega (arith, small, batch_no_shorter begun (written_start table None) events))
-batch_short begun table (Some c) events fit small =
-    events_short _ table events (λ e. omega (arith, e)) fit.fit (omega (arith, small, batch_no_shorter begun (written_start table (Some c)) events))
+pub batch_short : (begun : Bool) (start : Start) (s : Slow) (events : List Event) → FitLines start s events → length (batch_text begun start events) ≤ most_batch
+    → AreEvents start.format s events
+batch_short begun start s events fit small = events_short start.format s events fit.fit (omega (arith, small, batch_no_shorter begun start events))
 
-events_fit : (format : ℕ) (table : List Declared) (events : List Event) → AreEvents format table events → AreFit table events
-events_fit format table [] are = tt
-events_fit format table (e ∷ es) are = (are.0, events_fit format table es are.3)
+events_fit : (format : ℕ) (s : Slow) (events : List Event) → AreEvents format s events → AreFit format s events
+events_fit format s [] are = tt
+events_fit format s (e ∷ es) are = (are.0, are.1, events_fit format (after s e.what) es are.3)
 
-fits_before : (format : ℕ) (table : List Declared) (o : Option CheckpointView) → IsBefore format table o → FitsBefore table o
-fits_before format table None is = is.2
-fits_before format table (Some c) is = (is.1).fits
+fits_before : (format : ℕ) (table : List Declared) (o : Option CheckpointView) → IsBefore format table o → FormatFits format o × FitsBefore table o
+fits_before format table None is = (is.0, is.2)
+fits_before format table (Some c) is = let r = is.1 in ((r.is_format, r.gapless), r.fits)
 
 -- what has a text can be in lines
-pub fits_again : (start : Start) (events : List Event) → HasText start events → FitLines start events
+pub fits_again : (start : Start) (events : List Event) → HasText start events → FitLines start (first_state start) events
 fits_again start events text =
     let is = text.1 in
-    record { start_fits = fits_before start.format start.table start.checkpoint is.start; fit = events_fit start.format start.table events is.events }
+    let before = fits_before start.format start.table start.checkpoint is.start in
+    record { format_fits = before.0; start_fits = before.1; fit = events_fit start.format (first_state start) events is.events }
 
 -- ---- how a history begins: with `{"format":`
 abbrev pub BeginsHistory : List ℕ → Type 0
@@ -170,9 +166,9 @@ header_begins : (format n : ℕ) → BeginsHistory (header_line format n)
 unfolding header_line escape_byte
 header_begins format n = (_, refl)
 
-checkpoint_header_begins : (next vars waiting : ℕ) → BeginsHistory (checkpoint_header_line next vars waiting)
+checkpoint_header_begins : (format next vars waiting : ℕ) → BeginsHistory (checkpoint_header_line format next vars waiting)
 unfolding checkpoint_header_line escape_byte
-checkpoint_header_begins next vars waiting = (_, refl)
+checkpoint_header_begins format next vars waiting = (_, refl)
 
 begins-append : (text more : List ℕ) → BeginsHistory text → BeginsHistory (text ++ more)
 begins-append text more begins = (begins.0 ++ more, ap (λ (l : List ℕ). l ++ more) begins.1)
@@ -180,9 +176,9 @@ begins-append text more begins = (begins.0 ++ more, ap (λ (l : List ℕ). l ++ 
 before_begins : (format : ℕ) (table : List Declared) (o : Option CheckpointView) → BeginsHistory (text_before format table o)
 before_begins format table None = begins-append (header_line format (length table)) (10 ∷ variable_lines table) (header_begins format (length table))
 before_begins format table (Some c) =
-    begins-append (cells_text c.next (length c.store) (length c.blocks) table c.store) (block_lines c.blocks)
-    (begins-append (checkpoint_header_line c.next (length c.store) (length c.blocks)) (10 ∷ cell_lines table c.store)
-    (checkpoint_header_begins c.next (length c.store) (length c.blocks)))
+    begins-append (cells_text format c.next (length c.store) (length c.blocks) c.names c.store) (block_lines c.blocks)
+    (begins-append (checkpoint_header_line format c.next (length c.store) (length c.blocks)) (10 ∷ cell_lines c.names c.store)
+    (checkpoint_header_begins format c.next (length c.store) (length c.blocks)))
 
 history_begins : (start : Start) (events : List Event) → BeginsHistory (history_text start events)
 history_begins start events = begins-append (start_text start) (event_lines events) (before_begins start.format start.table start.checkpoint)

@@ -3,13 +3,14 @@ use Rattle.std.specs.Prelude.{◌≡◌, ◌≢◌, ◌⊎◌, ⊤, ◌≤◌, �
 use Rattle.std.specs.Borrow.{Bor}
 use Rattle.stm_store.specs.Tables.{Declared}
 use Rattle.stm_events.specs.declared.event.Event.{Event}
+use Rattle.stm_events.specs.SlowDesk.{Slow, after}
 use Rattle.stm_events.specs.States.{IsLegalFrom}
 use Rattle.stm_machine.specs.Checkpoints.{CheckpointView}
-use Rattle.stm_event_lines.specs.Fits.{FitsTable}
+use Rattle.stm_event_lines.specs.Fits.{FitsNames, FitsFormat}
 use Rattle.stm_history.specs.HistoryText.{event_lines, history_text, start_text}
-use Rattle.stm_history.specs.Judgement.{AreEvents, AreShortLines, StartFits}
+use Rattle.stm_history.specs.Judgement.{AreEvents, AreShortLines, FormatFits, StartFits}
 use Rattle.stm_history.specs.Loading.{IsWholeHistory, ReportsLoadFault, loaded_start}
-use Rattle.stm_history.specs.Starts.{Start, first_state, read_back, written_start}
+use Rattle.stm_history.specs.Starts.{Start, first_state, read_back, state_after_start}
 use Rattle.stm_history.specs.declared.files.loading.Loaded.{Loaded}
 use Rattle.stm_journal.specs.declared.sync_mode.SyncMode.{SyncMode}
 use Rattle.stm_journal.specs.declared.sync_mode.SyncMode.TheVariants.{Full, Append, Never}
@@ -24,9 +25,9 @@ use Rattle.stm_durable.specs.declared.recording.HistoryFile.{HistoryFile}
 use Rattle.stm_durable.specs.declared.resuming.OpenFault.{OpenFault}
 use Rattle.stm_durable.specs.declared.resuming.OpenFault.TheVariants.{Journal, History, Foreign}
 
--- where a history begins with this table and, if it does, from a checkpoint that is lent
-abbrev pub lent_start : List Declared → Option (Bor CheckpointView) → Start
-lent_start table checkpoint = written_start table (option_copied checkpoint)
+-- where a history in the format begins with this table and, if it does, from a checkpoint that is lent
+abbrev pub lent_start : ℕ → List Declared → Option (Bor CheckpointView) → Start
+lent_start format table checkpoint = record { format = format; table = table; checkpoint = option_copied checkpoint }
 
 -- what the file has
 abbrev pub file_text : Bool → Start → List Event → List ℕ
@@ -45,11 +46,12 @@ batch_sync Append true = Append
 batch_sync Append false = Full
 batch_sync Never begun = Never
 
--- the file has exactly this history, and all of it is on the disk, if the journal syncs
+-- the file has exactly this history, whose format it knows, and all of it is on the disk, if the journal syncs
 pub record HistoryKept {D : Type 0} (disk : Disk D) (f : HistoryFile D) (start : Start) (history : List Event) : Type 0 where
   pub at_rest : AtRest disk f.journal.device f.journal.sync f.journal.len
   pub text : disk.seen f.journal.device ≡ file_text f.begun start history
   pub none : f.begun ≡ false → history ≡ []
+  pub format_is : f.begun ≡ true → f.format ≡ start.format
 
 abbrev pub KeepsHistory : {D : Type 0} → Disk D → HistoryFile D → Start → List Event → Type 0
 KeepsHistory disk f start history = IsTrue disk.is_honest → HistoryKept disk f start history
@@ -62,15 +64,16 @@ KeepsSome disk f start = IsTrue disk.is_honest → (history : List Event) × His
 abbrev pub KeepsAny : {D : Type 0} → Disk D → HistoryFile D → Type 0
 KeepsAny disk f = IsTrue disk.is_honest → (start : Start) × (history : List Event) × HistoryKept disk f start history
 
--- each event can be in a line over the table
-abbrev pub AreFit : List Declared → List Event → Type 0
-AreFit table [] = ⊤
-AreFit table (e ∷ es) = FitsTable table e × AreFit table es
+-- each event, from a state on, can be in a line over the names of the state before it, in a history of the format
+abbrev pub AreFit : ℕ → Slow → List Event → Type 0
+AreFit format s [] = ⊤
+AreFit format s (e ∷ es) = FitsNames s.names e × FitsFormat format e × AreFit format (after s e.what) es
 
--- the start and the events can be in lines
-pub record FitLines (start : Start) (events : List Event) : Type 0 where
+-- the start can be in lines, and so can the events, from a state on
+pub record FitLines (start : Start) (s : Slow) (events : List Event) : Type 0 where
+  pub format_fits : FormatFits start.format start.checkpoint
   pub start_fits : StartFits start
-  pub fit : AreFit start.table events
+  pub fit : AreFit start.format s events
 
 -- ---- crashes
 
@@ -195,12 +198,12 @@ RefusalKeeps disk old new result =
     IsTrue disk.is_honest → IsErrOf result TooLong ⊎ IsErrOf result FullFile
     → (start : Start) (history : List Event) → HistoryKept disk old start history → HistoryKept disk new start history
 
--- The call fails only if a disk does, if memory runs out, or if a line of the start or the file is too long.
-abbrev pub BeginsUnless : {D T : Type 0} → Disk D → Start → Result T JournalError → Type 0
-BeginsUnless disk start result =
+-- The call fails only if a disk does, if memory runs out, or if a line of the history or the file is too long.
+abbrev pub BeginsUnless : {D T : Type 0} → Disk D → Start → List Event → Result T JournalError → Type 0
+BeginsUnless disk start events result =
     FailsOnlyIfAny disk (record {
-      full = 2 ^ 62 < length (start_text start);
-      too_long = AreShortLines (start_text start) → ⊥;
+      full = 2 ^ 62 < length (history_text start events);
+      too_long = AreShortLines (history_text start events) → ⊥;
       torn_too_long = ⊥;
     }) result
 
@@ -268,22 +271,21 @@ IsOfFile Foreign = ⊤
 
 -- ---- laws
 
--- the start is as it is written, and its text can be read again: no line of it is too long
+-- the text of the start can be read again: its format is one of histories that begin so, and no line of it is too long
 pub record StartCanBeRead (start : Start) : Type 0 where
-  pub written : start ≡ written_start start.table start.checkpoint
+  pub format_fits : FormatFits start.format start.checkpoint
   pub fits : StartFits start
   pub short : AreShortLines (start_text start)
 
 -- the start can be read again, the history's events are in short lines, and so is each of these; with them it is legal
 pub record MayGoOn (start : Start) (history events : List Event) : Type 0 where
   pub begins : StartCanBeRead start
-  pub old : AreEvents start.format start.table history
-  pub new : AreEvents start.format start.table events
+  pub old : AreEvents start.format (first_state start) history
+  pub new : AreEvents start.format (state_after_start start history) events
   pub legal : IsLegalFrom (first_state start) (history ++ events)
 
 -- What a crash leaves with `Full` is loaded again as the history from before, or as that with all events; of a file with no
--- batch yet, as nothing. It begins where reading the lines of the start begins: at the same state, and a checkpoint's table has
--- the first values by which it is read.
+-- batch yet, as nothing. It begins where reading the lines of the start begins: at the same state, and with no table after a checkpoint.
 abbrev pub AllOrNoneIsResumed : Type 0
 AllOrNoneIsResumed =
     (begun : Bool) (start : Start) (history events : List Event) (file : List ℕ)

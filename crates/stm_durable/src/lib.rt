@@ -204,7 +204,8 @@ mod tests {
         let Some(checkpoint) = &loaded.checkpoint else {
             return Ok((Vec::new(alloc), old.file.journal.device));
         };
-        old.file.begin_anew(alloc, &loaded.table, Some(checkpoint))?;
+        old.file
+            .begin_anew(alloc, loaded.format, &loaded.table, Some(checkpoint), &[])?;
         let bytes = old.file.journal.device.bytes().to_vec(alloc)?;
         old.file
             .record(alloc, &loaded.table, Some(checkpoint), &loaded.events)?;

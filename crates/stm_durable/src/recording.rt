@@ -1,6 +1,7 @@
 //! Events, recorded in a file.
 
 ghost use Rattle.std.specs.Prelude.{◌≡◌, ◌≢◌, ◌++◌, ◌+◌, ◌<◌, ◌≤◌, ◌^◌, [], true, false, IsTrue, length, take, OnOk, IfOk, IfErr};
+ghost use Rattle.stm_events.specs.SlowDesk.{Slow};
 ghost use Rattle.stm_history.specs.Judgement.{AreEvents};
 ghost use Rattle.stm_journal.specs.Disk.{Shows, CrashLeaves, FailsOnlyIf};
 ghost use Rattle.stm_journal.specs.Journal.{IsAtRest, MayLeave, most_batch};
@@ -9,7 +10,7 @@ ghost use Rattle.stm_durable.specs.Durable.{lent_start, history_front, IsBegunOr
 
 use std::alloc::Global;
 use stm_events::Event;
-use stm_history::{write_events, write_history};
+use stm_history::{write_events, write_start};
 use stm_journal::{Device, Journal, JournalError, MAX_BATCH, SyncMode};
 use stm_machine::Checkpoint;
 use stm_store::Table;
@@ -17,32 +18,32 @@ use stm_store::Table;
 /// How each history begins.
 pub(crate) const HISTORY_FRONT: &[u8] = b"{\"format\":";
 
-/// The file of a history, and whether it has its first lines.
+/// The file of a history, whether it has its first lines, and the format that these say or are to say.
 #[derive(Drop)]
 pub struct HistoryFile<D: Device> {
     pub journal: Journal<D>,
     pub begun: bool,
+    pub format: u32,
 }
 
 /// The bytes of a batch.
 fn batch_of(
     alloc: Global,
     begun: bool,
+    format: u32,
     table: &Table,
     checkpoint: Option<&Checkpoint>,
     events: &[Event],
 ) -> Result<Vec<u8>, JournalError>
     ensures ok { IfOk result (λ batch. batch.items
-        ≡ batch_text begun (lent_start table.now checkpoint.entry) events.now) }
+        ≡ batch_text begun (lent_start format table.now checkpoint.entry) events.now) }
     ensures err { IfErr result (λ e. e ≡ JournalError.NoMemory) }
 {
     let mut batch = Vec::new(alloc);
-    let written = if begun {
-        write_events(alloc, &mut batch, events)
-    } else {
-        write_history(alloc, &mut batch, table, checkpoint, events)
-    };
-    match written {
+    if !begun && write_start(alloc, &mut batch, format, table, checkpoint).is_err() {
+        return Err(JournalError::NoMemory);
+    }
+    match write_events(alloc, &mut batch, events) {
         Ok(()) => Ok(batch),
         Err(_) => Err(JournalError::NoMemory),
     }
@@ -89,7 +90,7 @@ fn add_batch<D: Device>(
 
 impl<D: Device> HistoryFile<D> {
     /// Records events after those that the file has, as one batch. The first batch also has the lines before the events, even if
-    /// there is no event.
+    /// there is no event, in the format of the file.
     ///
     /// A batch of more than 1 MiB is refused as `TooLong`, before anything is written; the caller records fewer events at a
     /// time. After any other error than `TooLong`, `NoMemory` and `Full` nothing more can be recorded: open the file again.
@@ -100,21 +101,23 @@ impl<D: Device> HistoryFile<D> {
         checkpoint: Option<&Checkpoint>,
         events: &[Event],
     ) -> Result<(), JournalError>
-        requires kept { KeepsSome D.disk self.old (lent_start table.now checkpoint) }
-        requires fit { FitLines (lent_start table.now checkpoint) events.now }
-        ensures recorded { OnOk result (Records D.disk self.old self.new (lent_start table.now checkpoint.entry) events.now) }
+        requires kept { KeepsSome D.disk self.old (lent_start self.old.format table.now checkpoint) }
+        requires fit { (s : Slow) × FitLines (lent_start self.old.format table.now checkpoint) s events.now }
+        ensures recorded { OnOk result (Records D.disk self.old self.new (lent_start self.old.format table.now checkpoint.entry) events.now) }
         ensures begun { OnOk result (self.new.begun ≡ true) }
         ensures sync { self.new.journal.sync ≡ self.old.journal.sync }
+        ensures format { self.new.format ≡ self.old.format }
         // The lines that were recorded are no longer than a line of a history may be.
-        ensures short { OnOk result (AreEvents (lent_start table.now checkpoint.entry).format table.now events.now) }
-        ensures refused { RefusesLongEvents self.old self.new (lent_start table.now checkpoint.entry) events.now result }
+        ensures short { OnOk result ((s : Slow) → FitLines (lent_start self.old.format table.now checkpoint.entry) s events.now
+            → AreEvents self.old.format s events.now) }
+        ensures refused { RefusesLongEvents self.old self.new (lent_start self.old.format table.now checkpoint.entry) events.now result }
         // A crash at any moment, and an error, leave the history from before, and of these events what the sync mode promises.
-        ensures any_moment { LeavesAtAnyMoment D.disk self.old self.new (lent_start table.now checkpoint.entry) events.now }
+        ensures any_moment { LeavesAtAnyMoment D.disk self.old self.new (lent_start self.old.format table.now checkpoint.entry) events.now }
         // None of these is foreign, unless a crash tears the byte that opens the first batch.
-        ensures own { LeavesOwn D.disk self.old self.new (lent_start table.now checkpoint.entry) events.now }
-        ensures fault { RecordsUnless D.disk self.old self.new (lent_start table.now checkpoint.entry) events.now result }
+        ensures own { LeavesOwn D.disk self.old self.new (lent_start self.old.format table.now checkpoint.entry) events.now }
+        ensures fault { RecordsUnless D.disk self.old self.new (lent_start self.old.format table.now checkpoint.entry) events.now result }
     {
-        let batch = match batch_of(alloc, self.begun, table, checkpoint, events) {
+        let batch = match batch_of(alloc, self.begun, self.format, table, checkpoint, events) {
             Ok(batch) => batch,
             Err(error) => return Err(error),
         };

@@ -1,11 +1,12 @@
 //! A file of a history, opened again.
 
-ghost use Rattle.std.specs.Prelude.{◌≡◌, ◌⊎◌, ◌≤◌, ◌<◌, ◌+◌, ◌^◌, IsTrue, IfOk, IfErr, IfSome, MatchResult, length, take, drop};
+ghost use Rattle.std.specs.Prelude.{◌≡◌, ◌⊎◌, ◌≤◌, ◌<◌, ◌+◌, ◌^◌, Some, IsTrue, IfOk, IfErr, IfSome, MatchResult, length, take, drop};
 ghost use Rattle.stm_events.specs.Laws.{SubmittedAreWellTyped};
 ghost use Rattle.stm_events.specs.SlowDesk.{state_from};
 ghost use Rattle.stm_events.specs.States.{IsLegalFrom};
 ghost use Rattle.stm_history.specs.Loading.{HasText, ReportsLoadFault, loaded_start};
 ghost use Rattle.stm_history.specs.Starts.{BlocksAreOfText};
+ghost use Rattle.stm_history.specs.declared.files.loading.Loaded.{Loaded as AnyLoaded};
 ghost use Rattle.stm_journal.specs.Disk.{IsSettled, Reaches, FailsOnlyByReads};
 ghost use Rattle.stm_journal.specs.Journal.{HasFound, LeavesSameLines, ShowsSameLines, most_batch};
 ghost use Rattle.stm_journal.specs.Text.{recovered, dropped_count};
@@ -15,6 +16,7 @@ ghost use Rattle.stm_durable.specs.Durable.{HasLoaded, LoadsFront, ReportsOpenFa
 
 use crate::recording::{HISTORY_FRONT, HistoryFile};
 use std::alloc::Global;
+use stm_event_lines::formats::LATEST_FORMAT;
 use stm_history::{LoadFault, Loaded, load_history};
 use stm_journal::{Device, FileReader, Found, Journal, JournalError, SyncMode, inspect, repair};
 use stm_store::Seed;
@@ -24,7 +26,7 @@ use stm_store::Seed;
 pub enum OpenFault {
     /// The disk failed, memory ran out, or more than a batch follows the whole lines.
     Journal(JournalError),
-    /// Its whole lines are no legal history of format 3 or 4.
+    /// Its whole lines are no legal history of format 3, 4 or 5.
     History(LoadFault),
     /// It has no line of a history, and doesn't begin as a first batch does: it is some other file.
     Foreign,
@@ -53,7 +55,7 @@ fn load_front<D: Device>(
         (state_from (start_of h.table h.checkpoint) h.events.items))) }
     ensures lines { IfOk result (λ o. IfSome o (λ h. HasText (loaded_start h) h.events.items)) }
     ensures typed { IfOk result (λ o. IfSome o (λ h. SubmittedAreWellTyped h.events.items)) }
-    ensures blocks { IfOk result (λ o. IfSome o (λ h. IfSome h.checkpoint (BlocksAreOfText h.table))) }
+    ensures blocks { IfOk result (λ o. IfSome o (λ h. IfSome h.checkpoint BlocksAreOfText)) }
     ensures text { IsTrue D.disk.is_honest → IfOk result (LoadsFront (take len (D.disk.seen device.now))) }
     ensures fault { IsTrue D.disk.is_honest → IfErr result (λ e. ReportsLoadFault e (take len (D.disk.seen device.now))) }
 {
@@ -124,7 +126,7 @@ fn judge<D: Device>(
         (state_from (start_of h.table h.checkpoint) h.events.items))) }
     ensures lines { IfOk result (λ r. IfSome r.1 (λ h. HasText (loaded_start h) h.events.items)) }
     ensures typed { IfOk result (λ r. IfSome r.1 (λ h. SubmittedAreWellTyped h.events.items)) }
-    ensures blocks { IfOk result (λ r. IfSome r.1 (λ h. IfSome h.checkpoint (BlocksAreOfText h.table))) }
+    ensures blocks { IfOk result (λ r. IfSome r.1 (λ h. IfSome h.checkpoint BlocksAreOfText)) }
     ensures text { IsTrue D.disk.is_honest → IfOk result (λ r. LoadsFront (recovered (D.disk.seen device.now)) r.1) }
     ensures own { IsTrue D.disk.is_honest → IfOk result (λ _. IsForeign (D.disk.seen device.now) → ⊥) }
     ensures reported { IsTrue D.disk.is_honest → IfErr result (λ e. ReportsOpenFault e (D.disk.seen device.now)) }
@@ -142,6 +144,16 @@ fn judge<D: Device>(
     match load_front(alloc, seed, device, found.kept) {
         Ok(loaded) => Ok((found, loaded)),
         Err(fault) => Err(OpenFault::History(fault)),
+    }
+}
+
+/// The format of a file of which this was loaded: of one without a history the latest.
+fn format_of(loaded: &Option<Loaded>) -> u32
+    ensures { (h : AnyLoaded) → loaded.now ≡ Some h → result ≡ h.format }
+{
+    match loaded {
+        Some(loaded) => loaded.format,
+        None => LATEST_FORMAT,
     }
 }
 
@@ -175,7 +187,12 @@ fn repaired<D: Device>(
                 len: found.kept,
                 sync,
             };
-            let file = HistoryFile { journal, begun };
+            let format = format_of(&loaded);
+            let file = HistoryFile {
+                journal,
+                begun,
+                format,
+            };
             Ok(Opened {
                 file,
                 loaded,
@@ -208,7 +225,7 @@ pub fn open_history<D: Device>(
         (state_from (start_of h.table h.checkpoint) h.events.items))) }
     ensures lines { IfOk result (λ r. IfSome r.loaded (λ h. HasText (loaded_start h) h.events.items)) }
     ensures typed { IfOk result (λ r. IfSome r.loaded (λ h. SubmittedAreWellTyped h.events.items)) }
-    ensures blocks { IfOk result (λ r. IfSome r.loaded (λ h. IfSome h.checkpoint (BlocksAreOfText h.table))) }
+    ensures blocks { IfOk result (λ r. IfSome r.loaded (λ h. IfSome h.checkpoint BlocksAreOfText)) }
     // Its text is the file's whole lines, and the file then has exactly this text.
     ensures loaded { IsTrue D.disk.is_honest → IfOk result (λ r. LoadsFront (recovered (D.disk.seen device)) r.loaded) }
     ensures kept { IfOk result (λ r. IsSettled D.disk device → HasLoaded D.disk r.file r.loaded) }
