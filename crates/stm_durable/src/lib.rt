@@ -162,12 +162,14 @@ mod tests {
             Err((device, _)) => return Ok(device),
         };
         if let (Some(loaded), None) = (&whole.loaded, &new.loaded) {
-            new.file.record(
-                alloc,
-                &loaded.table,
-                loaded.checkpoint.as_ref(),
-                &loaded.events,
-            )?;
+            if new.file.format == loaded.format {
+                new.file.record(
+                    alloc,
+                    &loaded.table,
+                    loaded.checkpoint.as_ref(),
+                    &loaded.events,
+                )?;
+            }
         }
         Ok(new.file.journal.device)
     }
