@@ -28,7 +28,7 @@ use Rattle.stm_events.specs.SlowAtomically.{atomically}
 use Rattle.stm_desk.specs.declared.atomic.Ran.{Ran}
 use Rattle.stm_desk.specs.declared.errors.AtomicError.{AtomicError}
 use Rattle.stm_desk.specs.declared.errors.AtomicError.TheVariants as atomic
-use Rattle.stm_desk.specs.Refusals.{submit_refusal, declare_refusal, atomic_refusal, cancel_refusal, finish_refusal}
+use Rattle.stm_desk.specs.Refusals.{submit_refusal, late_declare_refusal, atomic_refusal, cancel_refusal, finish_refusal}
 use Rattle.stm_desk.proofs.Calls.{accepted}
 use Rattle.stm_desk.proofs.Starts.{start_rule}
 use Rattle.stm_desk.specs.declared.finish.Finish.{Finish}
@@ -74,23 +74,23 @@ submit_err d e js b x old new (Err y) p n t h = tt
 
 -- ---- declare
 pub declare_ok : {A E : Type 0} → (d e : DeskView) (js : List HandedOut) (v : Declared) (i : ℕ) (old new : List ℕ) (r : Result A E) → e ≡ with_event d 0 (DeclaredLate v.name v.kind v.value) → i ≡ length (state_of d).store
-    → RefusedAs late.NoMemory (declare_refusal d v.name v.kind v.value) (Ok i) → OnOk r (new ≡ old ++ declared_line i v.name)
-    → OnOk r (Steps (opened_as js e) old new (on_desk (opened_as js d) (declare_variable_step d v (declare_refusal d v.name v.kind v.value))))
+    → RefusedAs late.NoMemory (late_declare_refusal d v.name v.kind v.value) (Ok i) → OnOk r (new ≡ old ++ declared_line i v.name)
+    → OnOk r (Steps (opened_as js e) old new (on_desk (opened_as js d) (declare_variable_step d v (late_declare_refusal d v.name v.kind v.value))))
 declare_ok d e js v i old new (Ok x) p q n h =
-    subst (λ (o : Option LateDeclareError). Steps (opened_as js e) old new (on_desk (opened_as js d) (declare_variable_step d v o))) (sym (accepted late.NoMemory (declare_refusal d v.name v.kind v.value) i n))
+    subst (λ (o : Option LateDeclareError). Steps (opened_as js e) old new (on_desk (opened_as js d) (declare_variable_step d v o))) (sym (accepted late.NoMemory (late_declare_refusal d v.name v.kind v.value) i n))
     (ap (opened_as js) p, h ∙ ap (λ (k : ℕ). old ++ declared_line k v.name) q)
 declare_ok d e js v i old new (Err x) p q n h = tt
 
-pub declare_err : {A E : Type 0} → (d e : DeskView) (js : List HandedOut) (v : Declared) (x : LateDeclareError) (old new : List ℕ) (r : Result A E) → e ≡ d → RefusedAs {A = ℕ} late.NoMemory (declare_refusal d v.name v.kind v.value) (Err x)
+pub declare_err : {A E : Type 0} → (d e : DeskView) (js : List HandedOut) (v : Declared) (x : LateDeclareError) (old new : List ℕ) (r : Result A E) → e ≡ d → RefusedAs {A = ℕ} late.NoMemory (late_declare_refusal d v.name v.kind v.value) (Err x)
     → OnOk r (x ≢ late.NoMemory) → OnOk r (new ≡ old ++ late_declare_error_text x)
-    → OnOk r (Steps (opened_as js e) old new (on_desk (opened_as js d) (declare_variable_step d v (declare_refusal d v.name v.kind v.value))))
+    → OnOk r (Steps (opened_as js e) old new (on_desk (opened_as js d) (declare_variable_step d v (late_declare_refusal d v.name v.kind v.value))))
 declare_err d e js v x old new (Ok y) p n t h =
-    subst (λ (o : Option LateDeclareError). Steps (opened_as js e) old new (on_desk (opened_as js d) (declare_variable_step d v o))) (sym (refusal_is ℕ late.NoMemory (declare_refusal d v.name v.kind v.value) x n t)) (ap (opened_as js) p, h)
+    subst (λ (o : Option LateDeclareError). Steps (opened_as js e) old new (on_desk (opened_as js d) (declare_variable_step d v o))) (sym (refusal_is ℕ late.NoMemory (late_declare_refusal d v.name v.kind v.value) x n t)) (ap (opened_as js) p, h)
 declare_err d e js v x old new (Err y) p n t h = tt
 
 -- of a text that declares this variable
 pub text_declared : {A E : Type 0} → (d after : OpenDesk) (text : List ℕ) (v : Declared) (old new : List ℕ) (r : Result A E) → late_variable_of (known d) text ≡ Ok v
-    → OnOk r (Steps after old new (on_desk d (declare_variable_step d.desk v (declare_refusal d.desk v.name v.kind v.value)))) → OnOk r (Steps after old new (declare_step d text))
+    → OnOk r (Steps after old new (on_desk d (declare_variable_step d.desk v (late_declare_refusal d.desk v.name v.kind v.value)))) → OnOk r (Steps after old new (declare_step d text))
 unfolding declare_step
 text_declared d after text v old new r is h = subst (λ (x : Result Declared Refusal). OnOk r (Steps after old new (on_desk d (declare_text_step d.desk x)))) (sym is) h
 

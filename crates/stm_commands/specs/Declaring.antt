@@ -4,7 +4,7 @@ use Rattle.stm_store.specs.Tables.{Declared}
 use Rattle.stm_events.specs.declared.errors.LateDeclareError.{LateDeclareError}
 use Rattle.stm_events.specs.declared.event.What.TheVariants.{Declared as DeclaredLate}
 use Rattle.stm_desk.specs.DeskView.{DeskView, state_of, with_event}
-use Rattle.stm_desk.specs.Refusals.{declare_refusal}
+use Rattle.stm_desk.specs.Refusals.{late_declare_refusal}
 use Rattle.stm_blocks.specs.DeclaredVariable.{late_variable_of}
 use Rattle.stm_blocks.specs.declared.refusal.Refusal.{Refusal}
 use Rattle.stm_commands.specs.OpenDesk.{OpenDesk, on_desk, known}
@@ -22,7 +22,7 @@ declare_variable_step d v (Some e) = (d, late_declare_error_text e)
 
 -- `declare` of what a text declares
 abbrev pub declare_text_step : DeskView → Result Declared Refusal → DeskView × List ℕ
-declare_text_step d (Ok v) = declare_variable_step d v (declare_refusal d v.name v.kind v.value)
+declare_text_step d (Ok v) = declare_variable_step d v (late_declare_refusal d v.name v.kind v.value)
 declare_text_step d (Err e) = (d, refusal_text e)
 
 -- `declare`: the first reason that holds refuses it: a fault of the grammar, a first value that is no declared name, and why the

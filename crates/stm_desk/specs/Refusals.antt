@@ -23,8 +23,8 @@ abbrev pub submit_refusal : DeskView → Block → Option SubmitError
 submit_refusal d block = submit_refused (state_of d) (is_full d) block
 
 -- why a variable can't be declared, if it can't; the caller knows that the name is one
-abbrev pub declare_refusal : DeskView → List ℕ → Ty → Value → Option LateDeclareError
-declare_refusal d name kind value = late_declare_refused (state_of d) (is_full d) name kind value
+abbrev pub late_declare_refusal : DeskView → List ℕ → Ty → Value → Option LateDeclareError
+late_declare_refusal d name kind value = late_declare_refused (state_of d) (is_full d) name kind value
 
 -- why a ticket can't be cancelled, if it can't
 abbrev pub cancel_refusal : DeskView → ℕ → Option CancelError

@@ -7,7 +7,7 @@ ghost use Rattle.stm_events.specs.SlowDesk.{max_clients};
 ghost use Rattle.stm_events.specs.declared.event.What.TheVariants.{Declared as DeclaredLate};
 ghost use Rattle.stm_desk.specs.DeskView.{state_of, is_full, with_event};
 ghost use Rattle.stm_desk.specs.Limit.{limited_declare};
-ghost use Rattle.stm_desk.specs.Refusals.{declare_refusal};
+ghost use Rattle.stm_desk.specs.Refusals.{late_declare_refusal};
 
 use crate::desk::Desk;
 use std::alloc::Global;
@@ -40,7 +40,7 @@ fn limit_declare(full: bool, answer: Result<(), LateDeclareError>) -> Result<(),
 impl Desk {
     /// Why a variable can't be declared. The caller knows that the name is one.
     fn may_declare(&self, name: &str, kind: Ty, value: Value) -> Result<(), LateDeclareError>
-        ensures refused { RefusedAs LateDeclareError.NoMemory (declare_refusal self.now name.now kind value) result }
+        ensures refused { RefusedAs LateDeclareError.NoMemory (late_declare_refusal self.now name.now kind value) result }
         ensures room { OnOk result (is_full self.now ≡ false) }
     {
         limit_declare(self.is_full(), self.machine.may_declare(name, kind, value))
@@ -61,7 +61,7 @@ impl Desk {
         ensures accepted { OnOk result (self.new ≡ with_event self.old client (DeclaredLate name.now kind value)) }
         ensures number { IfOk result (λ i. i ≡ length (state_of self.old).store) }
         // Refused for the first reason that holds, or for lack of memory if none does.
-        ensures refused { RefusedAs LateDeclareError.NoMemory (declare_refusal self.old name.now kind value) result }
+        ensures refused { RefusedAs LateDeclareError.NoMemory (late_declare_refusal self.old name.now kind value) result }
         ensures unchanged { OnErr result (self.new ≡ self.old) }
     {
         match self.may_declare(name, kind, value) {

@@ -2,7 +2,7 @@
 
 ghost use Rattle.std.specs.Prelude.{◌≡◌, ◌≤◌, nat_lt, true, None, Some, length, option_map, slice_get};
 ghost use Rattle.std.specs.Option.{option_copied};
-ghost use Rattle.stm_events.specs.SlowDesk.{Waiter, is_current, find_waiter, serial, turns_from};
+ghost use Rattle.stm_events.specs.SlowDesk.{Waiter, is_current, find_waiter, serial, serial_steps_from};
 ghost use Rattle.stm_events.specs.States.{IsLegalFrom};
 ghost use Rattle.stm_events.specs.Ready.{next_ready};
 ghost use Rattle.stm_events.specs.SlowSettle.{lowest};
@@ -61,7 +61,7 @@ impl Desk {
         ensures store { result.now ≡ (state_of self.now).store }
         ensures serial { result.now
             ≡ serial (start_state self.now).store
-            (turns_from (start_state self.now) self.now.history) }
+            (serial_steps_from (start_state self.now) self.now.history) }
     {
         self.machine.store()
     }

@@ -143,8 +143,8 @@ abbrev pub if_named : Declared → Option What
 if_named d = if is_name_text d.name then Some (DeclaredLate d.name d.kind d.value) else None
 
 -- a late declaration
-abbrev pub declared_of : Data → Option What
-declared_of d = option_and_then if_named (declared_from_json d)
+abbrev pub declared_event_of : Data → Option What
+declared_event_of d = option_and_then if_named (declared_from_json d)
 
 -- what happened to a ticket, by the word for it
 abbrev pub what_of : List Named → Data → List ℕ → ℕ → Option What
@@ -162,7 +162,7 @@ client_field d = option_and_then (λ n. if nat_lt n max_clients then Some n else
 -- what happened, by the word for it: a declaration has no ticket
 abbrev pub what_in : List Named → Data → List ℕ → Option What
 what_in known d kind =
-    if bytes_eq kind (codes "declared") then declared_of d else option_and_then (what_of known d kind) (number_field (codes "ticket") d)
+    if bytes_eq kind (codes "declared") then declared_event_of d else option_and_then (what_of known d kind) (number_field (codes "ticket") d)
 
 -- an event of a history over these names
 abbrev pub event_of : List Named → Data → Option Event

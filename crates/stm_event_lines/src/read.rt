@@ -7,7 +7,7 @@ ghost use Rattle.stm_events.specs.declared.event.Event.{Event as AnyEvent};
 ghost use Rattle.stm_store.specs.Tables.{Declared};
 ghost use Rattle.stm_store.specs.Naming.{Named};
 ghost use Rattle.stm_event_lines.specs.Fields.{block_of_text};
-ghost use Rattle.stm_event_lines.specs.Fields.{event_of as event_meant, header_of as header_meant, what_of as what_meant, what_in as what_in_meant, if_named as if_named_meant, declared_of, client_field, submitted_of, installed_of, finished_of, number_field, declared_from_json as variable_meant, type_in as type_meant, text_field};
+ghost use Rattle.stm_event_lines.specs.Fields.{event_of as event_meant, header_of as header_meant, what_of as what_meant, what_in as what_in_meant, if_named as if_named_meant, declared_event_of, client_field, submitted_of, installed_of, finished_of, number_field, declared_from_json as variable_meant, type_in as type_meant, text_field};
 ghost use Rattle.stm_terms.specs.Limits.{most_refs};
 ghost use Rattle.stm_events.specs.SlowDesk.{max_clients};
 ghost use Rattle.stm_event_lines.specs.Fits.{Is32Bit, FitsNames, WhatFitsNames, FitsValue, FitsVariable};
@@ -166,7 +166,7 @@ fn if_named(alloc: Global, variable: Variable) -> Result<Option<What>, NoMemory>
 }
 
 fn declaration(alloc: Global, json: &Json) -> Result<Option<What>, NoMemory>
-    ensures value { IfOk result (λ o. o ≡ declared_of (view json.now)) }
+    ensures value { IfOk result (λ o. o ≡ declared_event_of (view json.now)) }
     ensures fits { IfOk result (λ o. IfSome o (λ w. (t : List Named) → WhatFitsNames t w)) }
 {
     match variable_of(alloc, json)? {

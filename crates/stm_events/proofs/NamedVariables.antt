@@ -19,7 +19,7 @@ use Rattle.stm_store.proofs.Typed.{mapped}
 use Rattle.stm_check.proofs.Weakening.{covered}
 use Rattle.stm_events.specs.declared.event.What.{What}
 use Rattle.stm_events.specs.declared.event.What.TheVariants.{Submitted, Installed, Finished, Cancelled, Declared as DeclaredLate}
-use Rattle.stm_events.specs.SlowDesk.{Slow, MayDeclare, declaration, after}
+use Rattle.stm_events.specs.SlowDesk.{Slow, MayDeclareLate, declaration, after}
 
 -- ---- one more
 pub covers-append : (cells : List (Ty × Value)) (us vs : List (ℕ × Ty)) → Covers cells us → Covers cells vs → Covers cells (us ++ vs)
@@ -76,7 +76,7 @@ one_new : (kind : Ty) (value : Value) (k : ℕ) (c : Ty × Value) → slice_get 
 one_new kind value zero c e = cc
 one_new kind value (suc k) c e = absurd (cc)
 
-pub declaration_fits : (s : Slow) (name : List ℕ) (kind : Ty) (value : Value) → Covers (plains s.store) (named_uses s.names) → MayDeclare s name kind value → Fits (plains s.store) (declaration kind value)
+pub declaration_fits : (s : Slow) (name : List ℕ) (kind : Ty) (value : Value) → Covers (plains s.store) (named_uses s.names) → MayDeclareLate s name kind value → Fits (plains s.store) (declaration kind value)
 unfolding Fits
 declaration_fits s name kind value c m =
     let news : List (Ty × Value) = (kind, value) ∷ [] in

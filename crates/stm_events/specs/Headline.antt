@@ -8,7 +8,7 @@ use Rattle.stm_events.specs.declared.event.What.{What}
 use Rattle.stm_events.specs.declared.event.What.TheVariants.{Submitted, Installed, Finished, Cancelled, Declared as DeclaredLate}
 use Rattle.stm_events.specs.declared.staleness.StalenessRule.{StalenessRule}
 use Rattle.stm_events.specs.declared.staleness.StalenessRule.TheVariants.{Changed}
-use Rattle.stm_events.specs.SlowDesk.{Slow, Waiter, looked_on, verdict_on, waking, intersects, is_new, is_current, find_waiter, after, initial_state, state_by, serial, turns_from, IsLegalBy}
+use Rattle.stm_events.specs.SlowDesk.{Slow, Waiter, looked_on, verdict_on, waking, intersects, is_new, is_current, find_waiter, after, initial_state, state_by, serial, serial_steps_from, IsLegalBy}
 
 -- the event is an accepted delivery to the ticket
 abbrev pub installs_to : ℕ → What → Bool
@@ -74,7 +74,7 @@ pub data IsKnownBy (rule : StalenessRule) (table : List Declared) (history : Lis
 pub record HeadlineHoldsBy (rule : StalenessRule) (table : List Declared) (history : List Event) : Type 0 where
   pub blocks : (t : ℕ) (w : Waiter) → find_waiter t (state_by rule table history).waiters ≡ Some w
       → IsKnownBy rule table history t w
-  pub store : (state_by rule table history).store ≡ serial (opened table) (turns_from (initial_state rule table) history)
+  pub store : (state_by rule table history).store ≡ serial (opened table) (serial_steps_from (initial_state rule table) history)
 
 -- so it is after every legal history, by a rule of what makes blocks stale
 abbrev pub HeadlineBy : StalenessRule → Type 0

@@ -3,7 +3,7 @@ use Rattle.std.specs.Prelude.{◌≡◌, ℕ, true, false, not, ◌||◌, List, 
 use Rattle.stm_events.specs.declared.event.Event.{Event}
 use Rattle.stm_events.specs.declared.event.What.TheVariants.{Installed}
 use Rattle.stm_events.specs.Headline.{is_installed, waking_from, LastDelivery}
-use Rattle.stm_events.specs.SlowDesk.{Since, Slow, Waiter, verdict_on, looked_on, intersects, is_new, is_current, find_waiter, after, state_from, serial, turns_from}
+use Rattle.stm_events.specs.SlowDesk.{Since, Slow, Waiter, verdict_on, looked_on, intersects, is_new, is_current, find_waiter, after, state_from, serial, serial_steps_from}
 use Rattle.stm_events.specs.States.{IsPossible, IsLegalFrom}
 
 -- the state that a delivery left
@@ -40,7 +40,7 @@ pub data IsKnownFrom (s : Slow) (history : List Event) (t : ℕ) (w : Waiter) : 
 -- another
 pub record HeadlineHoldsFrom (s : Slow) (history : List Event) : Type 0 where
   pub blocks : (t : ℕ) (w : Waiter) → find_waiter t (state_from s history).waiters ≡ Some w → IsKnownFrom s history t w
-  pub store : (state_from s history).store ≡ serial s.store (turns_from s history)
+  pub store : (state_from s history).store ≡ serial s.store (serial_steps_from s history)
 
 -- so it is after every history that is legal from a possible state
 abbrev pub HeadlineFrom : Type 0

@@ -12,7 +12,7 @@ use Rattle.stm_events.specs.declared.event.Event.{Event}
 use Rattle.stm_events.specs.declared.event.What.{What}
 use Rattle.stm_events.specs.declared.event.What.TheVariants.{Submitted, Installed, Finished, Cancelled, Declared as DeclaredLate}
 use Rattle.stm_events.specs.declared.staleness.StalenessRule.{StalenessRule}
-use Rattle.stm_events.specs.SlowDesk.{Since, Waiter, Slow, under, verdict_on, is_stale_since, find_waiter, initial_state, state_by, turns_from, serial, standing, weak_standing, IsLegalBy}
+use Rattle.stm_events.specs.SlowDesk.{Since, Waiter, Slow, under, verdict_on, is_stale_since, find_waiter, initial_state, state_by, serial_steps_from, serial, standing, weak_standing, IsLegalBy}
 
 -- above k, each above the one before it, all below n
 abbrev pub AreRising : ℕ → ℕ → List Waiter → Type 0
@@ -50,7 +50,7 @@ CurrentHolds =
 abbrev pub StoreIsSerial : Type 0
 StoreIsSerial =
     (rule : StalenessRule) (table : List Declared) (history : List Event) → IsLegalBy rule table history
-    → (state_by rule table history).store ≡ serial (opened table) (turns_from (initial_state rule table) history)
+    → (state_by rule table history).store ≡ serial (opened table) (serial_steps_from (initial_state rule table) history)
 
 -- how a waiting block stands is said alike with the verdict of its delivery and, for a current block, with that on the present
 -- store

@@ -186,7 +186,7 @@ pub record MayFinish (s : Slow) (t : ℕ) (w : Waiter) (v : Verdict) (n : ℕ) (
 
 -- a variable may be declared: its name is one of the language, and no other variable's; it has a type of at most 8 `TVar` and a
 -- value of it, so a reference is to a variable that has a name; and the store has room
-pub record MayDeclare (s : Slow) (name : List ℕ) (kind : Ty) (value : Value) : Type 0 where
+pub record MayDeclareLate (s : Slow) (name : List ℕ) (kind : Ty) (value : Value) : Type 0 where
   pub name_is : IsTrue (is_name_text name)
   pub fresh : number_named name s.names ≡ None
   pub holds : may_hold_known s.names kind value ≡ true
@@ -198,7 +198,7 @@ Allows s (Submitted t block) = (t ≡ s.next) × Covers (plains s.store) block.u
 Allows s (Installed t v) = IsSomeAnd (find_waiter t s.waiters) (λ w. MayInstall s w v)
 Allows s (Finished t v n stale) = IsSomeAnd (find_waiter t s.waiters) (λ w. MayFinish s t w v n stale)
 Allows s (Cancelled t) = IsSomeAnd (find_waiter t s.waiters) (λ w. Unit {0})
-Allows s (DeclaredLate name kind value) = MayDeclare s name kind value
+Allows s (DeclaredLate name kind value) = MayDeclareLate s name kind value
 
 -- it allows the event, of a client
 pub record AllowsEvent (s : Slow) (e : Event) : Type 0 where
@@ -270,27 +270,27 @@ applied_or store (Some v) = applied store v
 applied_or store None = store
 
 -- what changes the store, in its turn: a block runs and finishes, or a variable is declared
-pub data Turn : Type 0 where
-  Runs : Block → Turn
-  Declares : Ty → Value → Turn
+pub data SerialStep : Type 0 where
+  Runs : Block → SerialStep
+  Declares : Ty → Value → SerialStep
 
 -- the store after a turn: a block's verdict is applied, or the variable is made
-abbrev pub after_turn : List Cell → Turn → List Cell
+abbrev pub after_turn : List Cell → SerialStep → List Cell
 after_turn store (Runs b) = applied_or store (verdict_on store b)
 after_turn store (Declares kind value) = applied store (declaration kind value)
 
 -- the store after each of these turns: each block has run alone
-abbrev pub serial : List Cell → List Turn → List Cell
+abbrev pub serial : List Cell → List SerialStep → List Cell
 serial store [] = store
 serial store (t ∷ ts) = serial (after_turn store t) ts
 
 -- the block of a waiter runs, if there is one
-abbrev pub turns_of_waiter : Option Waiter → List Turn
+abbrev pub turns_of_waiter : Option Waiter → List SerialStep
 turns_of_waiter (Some w) = Runs w.block ∷ []
 turns_of_waiter None = []
 
 -- the block that finishes by this runs, or the variable is declared, if one is
-abbrev pub turns_by : Slow → What → List Turn
+abbrev pub turns_by : Slow → What → List SerialStep
 turns_by s (Submitted t block) = []
 turns_by s (Installed t v) = []
 turns_by s (Finished t v n stale) = turns_of_waiter (find_waiter t s.waiters)
@@ -298,6 +298,6 @@ turns_by s (Cancelled t) = []
 turns_by s (DeclaredLate name kind value) = Declares kind value ∷ []
 
 -- the turns of these events, in order: the blocks that finish, and the variables that are declared
-abbrev pub turns_from : Slow → List Event → List Turn
-turns_from s [] = []
-turns_from s (e ∷ es) = turns_by s e.what ++ turns_from (after s e.what) es
+abbrev pub serial_steps_from : Slow → List Event → List SerialStep
+serial_steps_from s [] = []
+serial_steps_from s (e ∷ es) = turns_by s e.what ++ serial_steps_from (after s e.what) es

@@ -10,7 +10,7 @@ use Rattle.stm_store.specs.Cells.{plains, kinds_of, Covers, Fits, applied}
 use Rattle.stm_store.specs.Naming.{Named, named_uses, number_named, may_hold_known, MayHaveType, NumbersAreBelow}
 use Rattle.stm_events.specs.declared.event.What.TheVariants.{Declared as DeclaredLate}
 use Rattle.stm_events.specs.Refusals.{declare_first, late_declare_refused}
-use Rattle.stm_events.specs.SlowDesk.{Slow, MayDeclare, declaration, max_cells, after, Allows}
+use Rattle.stm_events.specs.SlowDesk.{Slow, MayDeclareLate, declaration, max_cells, after, Allows}
 use Rattle.stm_events.proofs.NamedVariables.{declaration_fits}
 use Rattle.stm_machine.specs.Machine.{Parts, Stands, IsAt}
 use Rattle.stm_machine.proofs.States.{moves_to}
@@ -34,7 +34,7 @@ none_is None e = refl
 less_is : (a b : ℕ) → nat_lt a b ≡ true → a < b
 less_is a b e = grind (arith, nat_tests)
 
-pub may_declare : (s : Slow) (name : List ℕ) (kind : Ty) (value : Value) → IsTrue (is_name_text name) → late_declare_refused s false name kind value ≡ None → MayDeclare s name kind value
+pub may_declare : (s : Slow) (name : List ℕ) (kind : Ty) (value : Value) → IsTrue (is_name_text name) → late_declare_refused s false name kind value ≡ None → MayDeclareLate s name kind value
 may_declare s name kind value n e =
     let f = free_by _ _ _ e in
     record { name_is = n; fresh = none_is _ f.fresh; holds = f.of_type; room = less_is _ _ f.room_is }

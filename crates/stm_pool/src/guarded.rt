@@ -12,7 +12,7 @@ ghost use Rattle.stm_events.specs.Refusals.{without_message};
 ghost use Rattle.stm_queue.specs.Queue.{is_out, marked, first_queued, sent_out};
 ghost use Rattle.stm_desk.specs.DeskView.{state_of, with_event};
 ghost use Rattle.stm_desk.specs.Events.{installation_of, finish_of};
-ghost use Rattle.stm_desk.specs.Refusals.{submit_refusal, declare_refusal, cancel_refusal, finish_refusal, RefusesDelivery, requeued_if_overtaken};
+ghost use Rattle.stm_desk.specs.Refusals.{submit_refusal, late_declare_refusal, cancel_refusal, finish_refusal, RefusesDelivery, requeued_if_overtaken};
 ghost use Rattle.stm_pool.specs.Own.{own_of, with_own, events_in_passes};
 ghost use Rattle.stm_pool.specs.Shown.{IsShown, IsPresentView};
 ghost use Rattle.stm_pool.specs.Closing.{close_told, TellsClose, MayClose, ClosingTells};
@@ -100,7 +100,7 @@ impl<L: Ledger> Guarded<L> {
         ensures number { IfOk result (λ i. i ≡ length (state_of self.old.desk).store) }
         // Unless memory runs out first, it is refused as the desk's own call is.
         ensures refused { result ≢ Err LateDeclareError.NoMemory
-            → RefusedAs LateDeclareError.NoMemory (declare_refusal self.old.desk name.now kind value) result }
+            → RefusedAs LateDeclareError.NoMemory (late_declare_refusal self.old.desk name.now kind value) result }
         ensures err { OnErr result ((self.new.desk ≡ self.old.desk) × (pass.new ≡ pass.old)) }
         ensures stopped { self.new.stopped ≡ self.old.stopped }
     {

@@ -46,7 +46,7 @@ use Rattle.stm_events.proofs.Alike.{AreAlike, MayBeAlike, alike_without, same_st
 use Rattle.stm_events.proofs.Possible.{had_without, possible_after}
 use Rattle.stm_machine.specs.Machine.{event}
 use Rattle.stm_machine.specs.JobsHandedOut.{sent}
-use Rattle.stm_desk.specs.Refusals.{submit_refusal, declare_refusal, atomic_first, events_needed, atomic_refusal, finish_refusal, cancel_refusal, requeued_if_overtaken}
+use Rattle.stm_desk.specs.Refusals.{submit_refusal, late_declare_refusal, atomic_first, events_needed, atomic_refusal, finish_refusal, cancel_refusal, requeued_if_overtaken}
 use Rattle.stm_desk.specs.DeskView.{DeskView, start_state, state_of, is_full, lacks_room, with_event}
 use Rattle.stm_desk.specs.Settling.{slow_run, slow_run_stop, with_whats}
 use Rattle.stm_blocks.specs.declared.refusal.Refusal.{Refusal}
@@ -122,7 +122,7 @@ declare_full : (d : DeskView) (v : Declared) (o : Option LateDeclareError) → o
 declare_full d v o e = inl (ap (λ (x : Option LateDeclareError). (declare_variable_step d v x).1) e)
 
 abbrev refused_as : DeskView → Declared → Option LateDeclareError
-refused_as d v = declare_refusal d v.name v.kind v.value
+refused_as d v = late_declare_refusal d v.name v.kind v.value
 
 declare_same : (b : Bool) (d d' : DeskView) (v : Declared) → AlikeDesks b d d' → NotFull b (declare_variable_step d v (refused_as d v)).1 (declare_variable_step d' v (refused_as d' v)).1 → refused_as d v ≡ refused_as d' v
 declare_same b d d' v k n =

@@ -27,7 +27,7 @@ use Rattle.stm_events.specs.Refusals.{missing, blocks_there, overflows, finish_f
 use Rattle.stm_events.specs.SlowDesk.{Since, Waiter, Slow, under, verdict_on, waking, is_blocks, is_new, is_current, find_waiter, without_waiter, stale_after, max_cells, max_waiting}
 use Rattle.stm_events.specs.SlowSettle.{Stop, NoRoom, NoCells, finishes, installs}
 use Rattle.stm_desk.specs.declared.errors.AtomicError.{AtomicError}
-use Rattle.stm_desk.specs.Refusals.{submit_refusal, declare_refusal, events_needed, atomic_refusal, finish_refusal, cancel_refusal}
+use Rattle.stm_desk.specs.Refusals.{submit_refusal, late_declare_refusal, events_needed, atomic_refusal, finish_refusal, cancel_refusal}
 use Rattle.stm_desk.specs.Reasons.{WaitReason, reason_of}
 use Rattle.stm_desk.specs.DeskView.{DeskView, state_of, is_full, lacks_room}
 use Rattle.stm_desk.specs.Settling.{slow_settle, slow_stop, slow_drain, slow_drain_stop, requeued_all}
@@ -89,7 +89,7 @@ submit_ends d (Ok b) h = submitted_ends d b (submit_refusal d b) refl
 submit_ends d (Err x) h = refusal_ends x h
 
 -- ---- declarations
-declared_ends : (d : DeskView) (v : Declared) (o : Option LateDeclareError) → declare_refusal d v.name v.kind v.value ≡ o → EndsALine (declare_variable_step d v o).1
+declared_ends : (d : DeskView) (v : Declared) (o : Option LateDeclareError) → late_declare_refusal d v.name v.kind v.value ≡ o → EndsALine (declare_variable_step d v o).1
 unfolding declared_line
 declared_ends d v None e = (codes "declared #" ++ decimal (length (state_of d).store) ++ 32 ∷ v.name, refl)
 declared_ends d v (Some x) e =
@@ -97,7 +97,7 @@ declared_ends d v (Some x) e =
     late_declare_error_ends x (λ m. declare_told (is_some (number_named v.name s.names)) (may_hold_known s.names v.kind v.value) (is_full d) (nat_lt (length s.store) max_cells) (e ∙ ap Some m))
 
 declare_ends : (d : DeskView) (r : Result Declared Refusal) → LateOrTold r → EndsALine (declare_text_step d r).1
-declare_ends d (Ok v) h = declared_ends d v (declare_refusal d v.name v.kind v.value) refl
+declare_ends d (Ok v) h = declared_ends d v (late_declare_refusal d v.name v.kind v.value) refl
 declare_ends d (Err x) h = refusal_ends x h
 
 -- ---- jobs

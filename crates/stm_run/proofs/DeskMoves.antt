@@ -25,7 +25,7 @@ use Rattle.stm_events.specs.Refusals.{missing, submit_first, declare_first, late
 use Rattle.stm_events.specs.SlowDesk.{Waiter, verdict_on, is_new, is_current, find_waiter, without_waiter, stale_after, waking, max_cells, max_waiting, MayFinish}
 use Rattle.stm_events.specs.declared.staleness.StalenessRule.{StalenessRule}
 use Rattle.stm_machine.proofs.Declaring.{may_declare}
-use Rattle.stm_desk.specs.Refusals.{submit_refusal, declare_refusal, finish_refusal, cancel_refusal}
+use Rattle.stm_desk.specs.Refusals.{submit_refusal, late_declare_refusal, finish_refusal, cancel_refusal}
 use Rattle.stm_desk.specs.DeskView.{DeskView, state_of, is_full}
 use Rattle.stm_commands.specs.Blocks.{submit_block_step}
 use Rattle.stm_commands.specs.Declaring.{declare_variable_step}
@@ -79,7 +79,7 @@ has_event_room false false full room e = absurd cc
 has_event_room false true true room e = absurd cc
 has_event_room false true false room e = refl
 
-pub declared_stands : (d : DeskView) (jobs : List HandedOut) (v : Declared) → IsTrue (is_name_text v.name) → (o : Option LateDeclareError) → declare_refusal d v.name v.kind v.value ≡ o → Stands d jobs → Stands (declare_variable_step d v o).0 jobs
+pub declared_stands : (d : DeskView) (jobs : List HandedOut) (v : Declared) → IsTrue (is_name_text v.name) → (o : Option LateDeclareError) → late_declare_refusal d v.name v.kind v.value ≡ o → Stands d jobs → Stands (declare_variable_step d v o).0 jobs
 declared_stands d jobs v n (Some x) e k = k
 declared_stands d jobs v n None e k =
     let s = state_of d in

@@ -38,7 +38,7 @@ use Rattle.stm_event_lines.proofs.CheckedBlocks.{checked_blocks_stay}
 use Rattle.stm_event_lines.specs.WholeBlocks.{BlockFault, NotParsed, NotTyped, given_type, block_if_typed, block_if_parsed, checked_block}
 use Rattle.stm_events.specs.SlowAtomically.{install_at_once}
 use Rattle.stm_desk.specs.declared.errors.AtomicError.{AtomicError}
-use Rattle.stm_desk.specs.Refusals.{submit_refusal, declare_refusal, atomic_refusal, finish_refusal, cancel_refusal}
+use Rattle.stm_desk.specs.Refusals.{submit_refusal, late_declare_refusal, atomic_refusal, finish_refusal, cancel_refusal}
 use Rattle.stm_desk.specs.DeskView.{DeskView, start_state, state_of, with_event}
 use Rattle.stm_desk.specs.Settling.{slow_run, requeued_all, with_whats}
 use Rattle.stm_blocks.specs.declared.refusal.Refusal.{Refusal}
@@ -222,7 +222,7 @@ module _ (table : List Declared) (checkpoint : Option CheckpointView) (before : 
   declared d v (Some e) f k = k
 
   declares : (d : DeskView) (text : List ℕ) (r : Result Declared Refusal) → late_variable_of (state_of d).names text ≡ r → Holds d → Holds (declare_text_step d r).0
-  declares d text (Ok v) e k = declared d v (declare_refusal d v.name v.kind v.value) (text, e) k
+  declares d text (Ok v) e k = declared d v (late_declare_refusal d v.name v.kind v.value) (text, e) k
   declares d text (Err x) e k = k
 
   submitted : (d : DeskView) (block : Block) (o : Option SubmitError) → checked_block (state_of d).names block.text ≡ Ok block → Holds d → Holds (submit_block_step d block o).0

@@ -11,7 +11,7 @@ use Rattle.stm_store.specs.Naming.{Named}
 use Rattle.stm_store.specs.Tables.{Declared}
 use Rattle.stm_event_lines.specs.WholeBlocks.{CheckedAreWellTyped}
 use Rattle.stm_events.specs.SlowDesk as slow
-use Rattle.stm_desk.specs.Refusals.{submit_refusal, declare_refusal, atomic_refusal, finish_refusal, cancel_refusal}
+use Rattle.stm_desk.specs.Refusals.{submit_refusal, late_declare_refusal, atomic_refusal, finish_refusal, cancel_refusal}
 use Rattle.stm_machine.specs.Checkpoints.{max_next}
 use Rattle.stm_desk.specs.DeskView.{DeskView, state_of}
 use Rattle.stm_desk.specs.Settling.{requeued_all}
@@ -85,7 +85,7 @@ submit_stands d jobs (Ok b) h k = submitted_stands d jobs b h.0 (submit_refusal 
 submit_stands d jobs (Err e) h k = k
 
 declare_stands : (d : DeskView) (jobs : List HandedOut) (r : Result Declared Refusal) → LateOrTold r → Stands d jobs → Stands (declare_text_step d r).0 jobs
-declare_stands d jobs (Ok v) h k = declared_stands d jobs v h.0 (declare_refusal d v.name v.kind v.value) refl k
+declare_stands d jobs (Ok v) h k = declared_stands d jobs v h.0 (late_declare_refusal d v.name v.kind v.value) refl k
 declare_stands d jobs (Err e) h k = k
 
 atomically_stands : (d : DeskView) (jobs : List HandedOut) (r : Result Block Refusal) → BlockOrTold (state_of d).names r → Stands d jobs → Stands (atomically_text_step d r).0 jobs

@@ -21,7 +21,7 @@ use Rattle.stm_events.specs.declared.event.Event.{Event}
 use Rattle.stm_events.specs.declared.event.What.{What}
 use Rattle.stm_events.specs.declared.event.What.TheVariants.{Submitted, Installed, Finished, Cancelled, Declared as DeclaredLate}
 use Rattle.stm_events.specs.Laws.{AreRising}
-use Rattle.stm_events.specs.SlowDesk.{Waiter, Slow, find_waiter, without_waiter, stale_after, becomes_stale, max_cells, MayInstall, MayFinish, MayDeclare, Allows, LegalFrom, state_from, max_events, after}
+use Rattle.stm_events.specs.SlowDesk.{Waiter, Slow, find_waiter, without_waiter, stale_after, becomes_stale, max_cells, MayInstall, MayFinish, MayDeclareLate, Allows, LegalFrom, state_from, max_events, after}
 use Rattle.stm_events.specs.States.{IsPossible, IsLegalFrom}
 use Rattle.stm_events.proofs.Folds.{legal_split}
 use Rattle.stm_events.proofs.Possible.{possible_from}
@@ -113,7 +113,7 @@ left_of : (a b : Bool) → (a && b) ≡ true → (a ≡ true) × (b ≡ true)
 left_of true b e = (refl, e)
 left_of false b e = absurd cc
 
-declared_small : (s : Slow) (name : List ℕ) (kind : Ty) (v : Value) → IsPossible s → MayDeclare s name kind v → AreNumbersSmall (DeclaredLate name kind v)
+declared_small : (s : Slow) (name : List ℕ) (kind : Ty) (v : Value) → IsPossible s → MayDeclareLate s name kind v → AreNumbersSmall (DeclaredLate name kind v)
 declared_small s name kind v p m =
     let h = left_of (nat_le kind.refs most_refs) (is_of_known s.names v kind) m.holds in
     let few : nat_le kind.refs most_refs ≡ true = h.0 in

@@ -3,7 +3,7 @@
 ghost use Rattle.std.specs.Prelude.{◌≡◌, ◌++◌, IsTrue, string_bytes, OnOk};
 ghost use Rattle.stm_terms.specs.Names.{is_name_text};
 ghost use Rattle.stm_blocks.specs.LateVariables.{late_variable as variable_in};
-ghost use Rattle.stm_desk.specs.Refusals.{declare_refusal};
+ghost use Rattle.stm_desk.specs.Refusals.{late_declare_refusal};
 ghost use Rattle.stm_commands.specs.Declaring.{declared_line, declare_variable_step, declare_step};
 ghost use Rattle.stm_commands.specs.OpenDesk.{on_desk, Steps};
 
@@ -26,7 +26,7 @@ impl OpenDesk {
         requires { IsTrue (is_name_text (variable_in variable.now).name) }
         ensures { OnOk result (Steps self.new (string_bytes out.old) (string_bytes out.new)
             (on_desk self.old (declare_variable_step self.old.desk (variable_in variable.now)
-            (declare_refusal self.old.desk (variable_in variable.now).name variable.now.kind variable.now.value)))) }
+            (late_declare_refusal self.old.desk (variable_in variable.now).name variable.now.kind variable.now.value)))) }
     {
         self.copy = None;
         let name = variable.name.as_str();

@@ -3,14 +3,14 @@ use Rattle.stm_events.specs.declared.errors.LateDeclareError.TheVariants.{NoMemo
 use Rattle.stm_events.specs.SlowDesk.{state_from}
 use Rattle.stm_machine.specs.Checkpoints.{start_of}
 use Rattle.stm_desk.specs.DeskView.{DeskView, is_full}
-use Rattle.stm_desk.specs.Refusals.{declare_refusal}
+use Rattle.stm_desk.specs.Refusals.{late_declare_refusal}
 use Rattle.stm_desk.proofs.Calls.{accepted, refused_alike, may_declare, kept_move}
 use Rattle.stm_desk.proofs.desk.Desk.declare.Goals as goal
 
 pub declare-requires-clause-may : goal.declare-requires-clause-may
 declare-requires-clause-may c =
-    let e = subst (λ (d : DeskView). declare_refusal d c.args.name.now c.args.kind c.args.value ≡ None) (sym c.self.view_is)
-    (accepted NoMemory (declare_refusal c.args.self.now c.args.name.now c.args.kind c.args.value) _ c.in-Ok.ensures.refused) in
+    let e = subst (λ (d : DeskView). late_declare_refusal d c.args.name.now c.args.kind c.args.value ≡ None) (sym c.self.view_is)
+    (accepted NoMemory (late_declare_refusal c.args.self.now c.args.name.now c.args.kind c.args.value) _ c.in-Ok.ensures.refused) in
     let r = subst (λ (d : DeskView). is_full d ≡ false) (sym c.self.view_is) c.in-Ok.ensures.room in
     (state_from (start_of c.self.inside.table c.self.inside.checkpoint) c.self.inside.history.items, c.self.invariant.at, may_declare _ _ _ _ _ c.self.invariant c.args.name.now c.args.kind c.args.value r e)
 
@@ -22,4 +22,4 @@ invariant_of-self-2 c =
 
 pub returns-in-Err-clause-refused : goal.returns-in-Err-clause-refused
 returns-in-Err-clause-refused c =
-    refused_alike (Unit {0}) ℕ NoMemory (declare_refusal c.args.self.now c.args.name.now c.args.kind c.args.value) c.in-Err.refusal c.in-Err.ensures.refused
+    refused_alike (Unit {0}) ℕ NoMemory (late_declare_refusal c.args.self.now c.args.name.now c.args.kind c.args.value) c.in-Err.refusal c.in-Err.ensures.refused
