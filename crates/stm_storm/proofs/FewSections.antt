@@ -4,6 +4,7 @@ use Rattle.std.specs.Prelude.{nat_lt, ⊤}
 use Rattle.std.proofs.lemmas.Bool.Decides.{nat_tests}
 use Rattle.stm_check.specs.TypedBlock.{Block}
 use Rattle.stm_parse.specs.ExpectationFunction.{parsed_expectation}
+use Rattle.stm_store.specs.Naming.{named_in_table}
 use Rattle.stm_store.specs.Tables.{Declared}
 use Rattle.stm_pool.specs.declared.section.Task.{Task}
 use Rattle.stm_pool.specs.declared.section.Task.TheVariants as task
@@ -63,7 +64,7 @@ few_expectation r b (Err e) h = tt
 few_in_section : (r : PartialScript) (b : Begun) (word : StormWord) (argument : List ℕ) → length (r.ended ++ b.tasks ∷ []) ≤ max_sections → Few (after_task r b word argument)
 few_in_section r b Tvar argument h = tt
 few_in_section r b Client argument h = few_client r argument
-few_in_section r b Submit argument h = few_block r b (compiled_block r.table argument) h
+few_in_section r b Submit argument h = few_block r b (compiled_block (named_in_table r.table) argument) h
 few_in_section r b Finish argument h = few_submission r b task.Finish (submission_of b.submissions (number_argument argument)) h
 few_in_section r b Cancel argument h = few_submission r b task.Cancel (submission_of b.submissions (number_argument argument)) h
 few_in_section r b Expect argument h = few_expectation r b (expected_task r.table (parsed_expectation argument)) h

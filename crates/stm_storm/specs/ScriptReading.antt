@@ -1,6 +1,7 @@
 -- The code's script under way, and what its calls return, by the definitions of scripts.
-use Rattle.std.specs.Prelude.{◌≡◌, ◌≤◌, ℕ, ◌+◌, nat_lt, List, [], ◌∷◌, Option, Some, None, Result, Ok, Err, length, map, if◌then◌else◌, ⊤}
+use Rattle.std.specs.Prelude.{◌≡◌, ◌≤◌, ℕ, ◌+◌, nat_lt, List, [], ◌∷◌, ◌++◌, Option, Some, None, Result, Ok, Err, length, map, if◌then◌else◌, ⊤}
 use Rattle.stm_blocks.specs.declared.refusal.Refusal.{Refusal}
+use Rattle.stm_blocks.specs.OutOfMemory.{IsOutOfMemory}
 use Rattle.stm_store.specs.Tables.{Declared}
 use Rattle.stm_pool.specs.declared.section.Section.{Section}
 use Rattle.stm_pool.specs.declared.section.Task.{Task}
@@ -26,13 +27,18 @@ abbrev pub or_refused : {Y : Type 0} → Result Y Refusal → Result Y LineFault
 or_refused (Ok y) = Ok y
 or_refused (Err refusal) = Err (Faulty (Refused refusal))
 
+-- a declaration puts the variable after the others; a refusal leaves them as they were, unless memory ran out
+abbrev pub DeclaresNext : List Declared → Result Unit Refusal → List Declared → Result Declared Refusal → Type 0
+DeclaresNext old (Ok u) new answer = (d : Declared) × (answer ≡ Ok d) × (new ≡ old ++ d ∷ [])
+DeclaresNext old (Err e) new answer = ¬ IsOutOfMemory e → (answer ≡ Err e) × (new ≡ old)
+
 -- what a client is to do
 abbrev pub tasks_of : Section → List Task
 tasks_of s = s.tasks.items
 
 -- a script under way, as the definitions have it
 abbrev pub reading_of : ScriptSoFar → PartialScript
-reading_of s = record { table = s.table; ended = map tasks_of s.ended.items; begun = s.begun }
+reading_of s = record { table = s.variables; ended = map tasks_of s.ended.items; begun = s.begun }
 
 -- the same if a section has begun
 abbrev pub reading_in : List Declared → List (List Task) → Begun → PartialScript

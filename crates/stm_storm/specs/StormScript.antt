@@ -7,6 +7,7 @@ use Rattle.stm_parse.specs.declared.fault.ParseFault.{ParseFault}
 use Rattle.stm_parse.specs.ExpectationFunction.{parsed_expectation}
 use Rattle.stm_parse.specs.Expectations.{ParsedExpectation}
 use Rattle.stm_store.specs.declared.table.DeclareError.TheVariants.{TypeOfValue}
+use Rattle.stm_store.specs.Naming.{named_in_table}
 use Rattle.stm_store.specs.Tables.{Declared, declared_cells, number_of, is_of}
 use Rattle.stm_pool.specs.declared.section.Task.{Task}
 use Rattle.stm_pool.specs.declared.section.Task.TheVariants as task
@@ -131,7 +132,7 @@ with_expectation r b (Err e) = Err (reason.Refused e)
 abbrev pub after_task : PartialScript → Begun → StormWord → List ℕ → Result PartialScript Reason
 after_task r b Tvar argument = Err reason.Late
 after_task r b Client argument = after_client r argument
-after_task r b Submit argument = with_block r b (compiled_block r.table argument)
+after_task r b Submit argument = with_block r b (compiled_block (named_in_table r.table) argument)
 after_task r b Finish argument = with_submission r b task.Finish (submission_of b.submissions (number_argument argument))
 after_task r b Cancel argument = with_submission r b task.Cancel (submission_of b.submissions (number_argument argument))
 after_task r b Expect argument = with_expectation r b (expected_task r.table (parsed_expectation argument))

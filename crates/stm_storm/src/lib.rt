@@ -2,7 +2,8 @@
 //!
 //! `storm` (`storming`) reads a script whole, runs it, replays the history that it left (`replaying`), and writes how it ended.
 //! `storm_word` has the words of the lines, `script_fault` why a line is faulty, `script_line` says what a line is, `begun_section`
-//! and `script_so_far` take it, and `script_reader` reads a script; `storm_text` has the lines that are written.
+//! and `script_so_far` take it, `variables` has those that are declared, and `script_reader` reads a script; `storm_text` has the lines
+//! that are written.
 //!
 //! What a reader has to believe is in these modules of specs/: `StormScript` has what a script says, or its first faulty line
 //! and why it is faulty, `FaultText` the names of the reasons, `StormHistory` which history a storm leaves, and `StormText` what a
@@ -18,6 +19,7 @@ pub mod script_so_far;
 mod storm_text;
 pub mod storm_word;
 pub mod storming;
+pub mod variables;
 
 pub use replaying::Replay;
 pub use script_fault::{Reason, ScriptFault};

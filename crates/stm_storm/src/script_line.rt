@@ -8,10 +8,12 @@ ghost use Rattle.stm_lines.specs.NumberArgument.{number_argument};
 ghost use Rattle.stm_blocks.specs.CompiledBlock.{compiled_block};
 ghost use Rattle.stm_blocks.specs.DeclaredVariable.{initial as initial_of};
 ghost use Rattle.stm_blocks.specs.OutOfMemory.{IsOutOfMemory};
+ghost use Rattle.stm_store.specs.Naming.{named_in_table};
 ghost use Rattle.stm_storm.specs.ScriptReading.{or_refused};
 ghost use Rattle.stm_storm.specs.StormScript.{submission_of, expected_at, expected_task};
 
 use crate::script_fault::Reason;
+use crate::variables::Variables;
 use std::alloc::Global;
 use stm_blocks::Refusal;
 use stm_blocks::block::compile_block;
@@ -50,11 +52,15 @@ pub fn fault_of(refusal: Refusal) -> LineFault
 }
 
 /// The block of a `submit`.
-pub fn submitted_block(alloc: Global, table: &Table, text: &str) -> Result<SharedBlock, LineFault>
+pub fn submitted_block(
+    alloc: Global,
+    variables: &Variables,
+    text: &str,
+) -> Result<SharedBlock, LineFault>
     ensures { AnswersUnless LineFault.NoMemory (λ b. b) result
-        (or_refused (compiled_block table.now text.now)) }
+        (or_refused (compiled_block (named_in_table variables.now) text.now)) }
 {
-    match compile_block(alloc, table, text) {
+    match compile_block(alloc, variables.names(), text) {
         Ok(block) => match SharedBlock::new(alloc, block) {
             Ok(block) => Ok(block),
             Err(_) => Err(LineFault::NoMemory),
