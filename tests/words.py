@@ -12,9 +12,9 @@ HELP_NAMES = ("stmdesk", "run", "storm", "explore", "check")
 VERSION_FILE = ROOT / "crates" / "stm_words" / "src" / "version.rt"
 
 ARGUMENTS = {  # of each command of the console
-    **{"tvar": "NAME : TYPE = INIT", "try": "BLOCK", "looks": "BLOCK", "submit": "BLOCK", "atomically": "BLOCK", "take": "N", "deliver": "J"},
-    **{"handback": "T", "eval": "", "finish": "T", "cancel": "T", "show": "", "reads": "T", "store": "", "settle": ""},
-    **{"drain": "", "history": "", "ready": "", "events": "N", "why": "T", "checkpoint": ""},
+    **{"tvar": "NAME : TYPE = INIT", "declare": "NAME : TYPE = INIT", "try": "BLOCK", "looks": "BLOCK", "submit": "BLOCK"},
+    **{"atomically": "BLOCK", "take": "N", "deliver": "J", "handback": "T", "eval": "", "finish": "T", "cancel": "T", "show": ""},
+    **{"reads": "T", "store": "", "settle": "", "drain": "", "history": "", "ready": "", "events": "N", "why": "T", "checkpoint": ""},
 }
 COMMANDS = [rf"  {word} ?{argument}( .*)?" for word, argument in ARGUMENTS.items()]
 HELP = [r"Usage: stmdesk \[COMMAND\]", r"Commands:", *(rf"  {word} +.*" for word in ("run", "storm", "explore", "check", "help"))]

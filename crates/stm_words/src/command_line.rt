@@ -65,51 +65,53 @@ docs/STORM.md storms, and docs/EXPLORE.md explorations.";
 
 const COMMANDS: &str = "\
 Commands on standard input, one per line. A line that begins with `--` is a comment.
-  tvar NAME : TYPE = INIT  Declares a variable, before any other command: `tvar #0 x`
+  tvar NAME : TYPE = INIT     Declares a variable, before any other command: `tvar #0 x`
       tvar x : Int = 1
-  try BLOCK                Runs a block on the present store without changing it, and prints its verdict
+  declare NAME : TYPE = INIT  Declares a variable at any time: `declared #1 y`
+      declare y : Int = 2
+  try BLOCK                   Runs a block on the present store without changing it, and prints its verdict
       try do { a <- readTVar x; writeTVar x (a + 1); return a }
-  looks BLOCK              Runs a block in the same way, and prints what it reads: `reads #0=1`
+  looks BLOCK                 Runs a block in the same way, and prints what it reads: `reads #0=1`
       looks readTVar x
-  submit BLOCK             Puts a block on the desk, where it waits: `ticket 1`
+  submit BLOCK                Puts a block on the desk, where it waits: `ticket 1`
       submit do { a <- readTVar x; if a < 1 then retry else writeTVar x (a + 1) }
-  atomically BLOCK         Submits, evaluates and finishes a block: `finished 3 result 7 stale 1 2`; `waits 3` if it blocks
+  atomically BLOCK            Submits, evaluates and finishes a block: `finished 3 result 7 stale 1 2`; `waits 3` if it blocks
       atomically writeTVar x 5
-  take N                   Hands out the N lowest queued tickets as jobs on the present store: `jobs 1=1 2=3`
+  take N                      Hands out the N lowest queued tickets as jobs on the present store: `jobs 1=1 2=3`
       take 2
-  deliver J                Evaluates job J on the store of its `take`, and delivers its verdict: `delivered 1`
+  deliver J                   Evaluates job J on the store of its `take`, and delivers its verdict: `delivered 1`
       deliver 1
-  handback T               Puts a ticket that is out back into the queue: `queued 1`
+  handback T                  Puts a ticket that is out back into the queue: `queued 1`
       handback 1
-  eval                     Evaluates and delivers all queued tickets: `evaluated 3`
+  eval                        Evaluates and delivers all queued tickets: `evaluated 3`
       eval
-  finish T                 Applies the verdict of a current block, and prints its result and the tickets that become stale:
-                           `finished 1 result () stale 2 3`
+  finish T                    Applies the verdict of a current block, and prints its result and the tickets that become stale:
+                              `finished 1 result () stale 2 3`
       finish 1
-  cancel T                 Removes a block from the desk: `cancelled 2`
+  cancel T                    Removes a block from the desk: `cancelled 2`
       cancel 2
-  show                     Prints each waiting ticket as `1 new`, `1 current VERDICT` or `1 stale VERDICT`, then `waiting 1`
+  show                        Prints each waiting ticket as `1 new`, `1 current VERDICT` or `1 stale VERDICT`, then `waiting 1`
       show
-  ready                    Prints the tickets that can be finished now, those that are current and don't block: `ready 3 7 9`
+  ready                       Prints the tickets that can be finished now, those that are current and don't block: `ready 3 7 9`
       ready
-  reads T                  Prints what the block under a ticket read at its last evaluation: `reads #0=1`
+  reads T                     Prints what the block under a ticket read at its last evaluation: `reads #0=1`
       reads 1
-  why T                    Prints what the block under a ticket waits for: `why 1 new`, `why 1 waits #0=1`, `why 1 ready`, or
-                           `why 1 stale 3 #0=1->2` if the finish of ticket 3 changed a variable that it had read (or
-                           `why 1 stale checkpoint` if that was before a checkpoint)
+  why T                       Prints what the block under a ticket waits for: `why 1 new`, `why 1 waits #0=1`, `why 1 ready`, or
+                              `why 1 stale 3 #0=1->2` if the finish of ticket 3 changed a variable that it had read (or
+                              `why 1 stale checkpoint` if that was before a checkpoint)
       why 1
-  store                    Prints each variable with its value and how often it changed, then `cells 1`
+  store                       Prints each variable with its value and how often it changed, then `cells 1`
       store
-  settle                   Evaluates and finishes blocks until none can continue: `settled 2 evaluations 3`
+  settle                      Evaluates and finishes blocks until none can continue: `settled 2 evaluations 3`
       settle
-  drain                    Finishes the same blocks in the same order, and evaluates a block only when it is its turn:
-                           `drained 2 evaluations 2`
+  drain                       Finishes the same blocks in the same order, and evaluates a block only when it is its turn:
+                              `drained 2 evaluations 2`
       drain
-  history                  Prints the history, one JSON object per line, as `stmdesk check` reads it
+  history                     Prints the history, one JSON object per line, as `stmdesk check` reads it
       history
-  events N                 Prints the history's events from the N-th on, counted from 1, then how many there are: `events 12`
+  events N                    Prints the history's events from the N-th on, counted from 1, then how many there are: `events 12`
       events 1
-  checkpoint               Lets the events so far go: the history begins again from where the desk is: `checkpoint 12`
+  checkpoint                  Lets the events so far go: the history begins again from where the desk is: `checkpoint 12`
       checkpoint
 
 A verdict is `commits writes W news N result V` (#0=2 writes 2 to variable 0), `throws 4`, `throws overflow`, or `blocks` if
