@@ -7,7 +7,7 @@ use stm_check::{SharedBlock, check};
 use stm_desk::{Desk, Finish, Status};
 use stm_eval::{Evaluated, Job, evaluate};
 use stm_parse::parse_block;
-use stm_store::{Frozen, Table};
+use stm_store::{Frozen, Names, Table};
 use stm_terms::{Base, Ty, Value, Verdict, is_name, write_value, write_verdict};
 
 /// Takes the job from its slot, and waits while there is none. A job is a number, and 0 means that there is none.
@@ -41,13 +41,13 @@ fn open(alloc: Global) -> Result<Desk> {
     Ok(Desk::open(alloc, &table, Desk::MAX_EVENTS)?)
 }
 
-/// Parses and checks a block.
-fn block(alloc: Global, table: &Table, text: &str) -> Result<SharedBlock> {
+/// Parses a block, and checks it over names of variables.
+fn block(alloc: Global, names: &Names, text: &str) -> Result<SharedBlock> {
     let raw = match parse_block(alloc, text) {
         Ok(raw) => raw,
         Err(fault) => bail!("the text is no block: {fault:?}"),
     };
-    match check(alloc, table, raw) {
+    match check(alloc, names, raw) {
         Ok(typed) => Ok(SharedBlock::new(alloc, typed)?),
         Err(fault) => bail!("the block is not well typed: {fault:?}"),
     }
@@ -55,7 +55,7 @@ fn block(alloc: Global, table: &Table, text: &str) -> Result<SharedBlock> {
 
 /// Submits a block, which waits from then on. The answer is its ticket.
 fn submit(alloc: Global, desk: &mut Desk, text: &str) -> Result<u32> {
-    let block = block(alloc, desk.table(), text)?;
+    let block = block(alloc, desk.names(), text)?;
     Ok(desk.submit(ME, block)?)
 }
 

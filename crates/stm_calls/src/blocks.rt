@@ -1,15 +1,15 @@
-//! Texts of blocks, checked over the declared variables.
+//! Texts of blocks, checked over names of variables.
 
 use crate::words::say;
 use std::alloc::{AllocError, Global};
 use std::fmt::Write;
 use stm_check::{SharedBlock, TypeFault, Typed, check};
 use stm_parse::{ParseFault, Token, parse_block, tokens};
-use stm_store::Table;
+use stm_store::Names;
 use stm_terms::Raw;
 
 /// Prints an error of the grammar.
-fn say_parse_fault(fault: ParseFault, out: &mut String) -> Result<(), AllocError> {
+pub fn say_parse_fault(fault: ParseFault, out: &mut String) -> Result<(), AllocError> {
     match fault {
         ParseFault::NoMemory => Err(AllocError),
         _ => writeln!(out, "refused {fault:?}"),
@@ -18,11 +18,11 @@ fn say_parse_fault(fault: ParseFault, out: &mut String) -> Result<(), AllocError
 
 fn checked(
     alloc: Global,
-    table: &Table,
+    names: &Names,
     raw: Raw,
     out: &mut String,
 ) -> Result<Option<Typed>, AllocError> {
-    match check(alloc, table, raw) {
+    match check(alloc, names, raw) {
         Ok(block) => Ok(Some(block)),
         Err(TypeFault::NoMemory) => Err(AllocError),
         Err(fault) => {
@@ -35,12 +35,12 @@ fn checked(
 /// The block of a text; if there is none, the error is printed.
 fn typed(
     alloc: Global,
-    table: &Table,
+    names: &Names,
     text: &str,
     out: &mut String,
 ) -> Result<Option<Typed>, AllocError> {
     match parse_block(alloc, text) {
-        Ok(raw) => checked(alloc, table, raw, out),
+        Ok(raw) => checked(alloc, names, raw, out),
         Err(fault) => {
             say_parse_fault(fault, out)?;
             Ok(None)
@@ -51,11 +51,11 @@ fn typed(
 /// The same as a block that many may hold.
 pub fn block_of(
     alloc: Global,
-    table: &Table,
+    names: &Names,
     text: &str,
     out: &mut String,
 ) -> Result<Option<SharedBlock>, AllocError> {
-    match typed(alloc, table, text, out)? {
+    match typed(alloc, names, text, out)? {
         Some(block) => Ok(Some(SharedBlock::new(alloc, block)?)),
         None => Ok(None),
     }

@@ -1,12 +1,14 @@
 //! Checkpoints of the store, and machines from them.
 
-ghost use Rattle.std.specs.Prelude.{◌≡◌};
+ghost use Rattle.std.specs.Prelude.{◌≡◌, IfOk};
 ghost use Rattle.stm_events.specs.SlowDesk.{Slow};
 ghost use Rattle.stm_events.specs.States.{IsTypedState};
 ghost use Rattle.stm_events.specs.declared.staleness.StalenessRule.{StalenessRule};
 ghost use Rattle.stm_machine.specs.Machine.{IsAt};
+ghost use Rattle.stm_store.specs.Naming.{named_in_table, named_uses};
 
 use crate::blocks::block_of;
+use crate::desk_show::say_names;
 use crate::store::Held;
 use crate::words::{first_word, number, say};
 use std::alloc::{AllocError, Global};
@@ -15,9 +17,9 @@ use stm_check::SharedBlock;
 use stm_events::status::Status;
 use stm_events::{Delivery, SharedVerdict};
 use stm_machine::{AddError, Checkpoint, CheckpointBlock, CheckpointError, Machine};
-use stm_store::Table;
+use stm_store::{Names, Table};
 use stm_terms::text::write_writes;
-use stm_terms::{Fault, News, Value, Verdict, Writes, write_verdict};
+use stm_terms::{Fault, News, Ty, Value, Verdict, Writes, write_verdict};
 
 fn int(word: &str) -> Value {
     Value::Int(word.parse::<i64>().unwrap_or(0))
@@ -85,7 +87,6 @@ fn delivery_in<'a>(
 /// Adds the block of the words `TICKET STATE READS VERDICT TEXT`.
 fn answer_add(
     checkpoint: &mut Checkpoint,
-    table: &Table,
     alloc: Global,
     words: &str,
     out: &mut String,
@@ -93,7 +94,7 @@ fn answer_add(
     let (ticket, rest) = first_word(words);
     let (state, rest) = first_word(rest);
     let (delivery, text) = delivery_in(alloc, state, rest)?;
-    match block_of(alloc, table, text, out)? {
+    match block_of(alloc, checkpoint.names(), text, out)? {
         Some(block) => add(checkpoint, alloc, number(ticket), block, delivery, out),
         None => Ok(()),
     }
@@ -198,10 +199,22 @@ fn answer_machine(
     say_taken(&machine, alloc, out)
 }
 
-/// A checkpoint of the store with a next ticket.
+/// The variables of a table, with their types.
+fn uses_of(alloc: Global, table: &Table) -> Result<Vec<(u32, Ty)>, AllocError>
+    ensures { IfOk result (λ uses. uses.items ≡ named_uses (named_in_table table.now)) }
+{
+    let mut uses = Vec::new(alloc);
+    for id in 0..table.len() {
+        uses.push((id as u32, table.kind(id as u32)))?;
+    }
+    Ok(uses)
+}
+
+/// A checkpoint of the store, in which the variables of the table have their names, with a next ticket.
 fn open(
     checkpoint: &mut Option<Checkpoint>,
     held: &Held,
+    table: &Table,
     alloc: Global,
     next: u32,
     out: &mut String,
@@ -209,8 +222,12 @@ fn open(
     if next == 0 || next > Checkpoint::MAX_NEXT {
         return say("refused no next ticket", out);
     }
+    if !held.store().covers(&uses_of(alloc, table)?) {
+        return say("refused no variable of a name", out);
+    }
+    let names = Names::of_table(alloc, table)?;
     let store = held.store().share()?;
-    *checkpoint = Some(Checkpoint::new(alloc, store, next));
+    *checkpoint = Some(Checkpoint::new(alloc, store, names, next));
     say("done", out)
 }
 
@@ -225,9 +242,12 @@ pub fn answer(
 ) -> Result<(), AllocError> {
     let (call, rest) = first_word(text);
     match (call, held, checkpoint.as_mut()) {
-        ("open", Some(held), _) => open(checkpoint, held, alloc, number(rest), out),
-        ("add", _, Some(checkpoint)) => answer_add(checkpoint, table, alloc, rest, out),
+        ("open", Some(held), _) => open(checkpoint, held, table, alloc, number(rest), out),
+        ("add", _, Some(checkpoint)) => answer_add(checkpoint, alloc, rest, out),
         ("show", _, Some(checkpoint)) => say_checkpoint(checkpoint, out),
+        ("names", _, Some(checkpoint)) => {
+            say_names(checkpoint.names(), checkpoint.store().len(), out)
+        }
         ("machine", _, Some(checkpoint)) => answer_machine(checkpoint, alloc, out),
         _ => say("refused no store or no checkpoint", out),
     }

@@ -6,9 +6,9 @@ use std::alloc::AllocError;
 use std::fmt::Write;
 use stm_desk::{Desk, Status};
 use stm_events::{Event, SharedVerdict, Tickets, What};
-use stm_store::Store;
+use stm_store::{Names, Store};
 use stm_terms::text::write_writes;
-use stm_terms::{Verdict, write_type, write_value, write_verdict};
+use stm_terms::{Ty, Value, Verdict, write_type, write_value, write_verdict};
 
 fn say_verdict(front: &str, verdict: &Verdict, out: &mut String) -> Result<(), AllocError> {
     out.push_str(front)?;
@@ -46,6 +46,18 @@ fn say_cell(store: &Store, id: u32, out: &mut String) -> Result<(), AllocError> 
     writeln!(out, " count {}", store.count(id))
 }
 
+/// Prints the variables that have names, of the first N.
+pub fn say_names(names: &Names, cells: usize, out: &mut String) -> Result<(), AllocError> {
+    out.push_str("names")?;
+    for number in 0..cells as u32 {
+        match names.name_of(number) {
+            Some(name) => write!(out, " #{number}={name}")?,
+            None => {}
+        }
+    }
+    say("", out)
+}
+
 fn say_block(desk: &Desk, ticket: u32, out: &mut String) -> Result<(), AllocError> {
     match desk.block(ticket) {
         None => say("none", out),
@@ -66,6 +78,14 @@ fn say_finished(
     say_tickets(stale.as_slice(), out)
 }
 
+fn say_declared(name: &str, kind: Ty, value: Value, out: &mut String) -> Result<(), AllocError> {
+    write!(out, "declared {name} : ")?;
+    write_type(kind, out)?;
+    out.push_str(" = ")?;
+    write_value(value, out)?;
+    out.push_str("\n")
+}
+
 fn say_event(event: &Event, out: &mut String) -> Result<(), AllocError> {
     write!(out, "client {} ", event.client)?;
     match &event.what {
@@ -83,6 +103,7 @@ fn say_event(event: &Event, out: &mut String) -> Result<(), AllocError> {
             first_new,
             stale,
         } => say_finished(*ticket, verdict, *first_new, stale, out),
+        What::Declared { name, kind, value } => say_declared(name.as_str(), *kind, *value, out),
     }
 }
 
@@ -104,6 +125,7 @@ pub fn answer(desk: &Desk, call: &str, n: u32, out: &mut String) -> Result<(), A
         "reads" => say_reads(desk, n, out),
         "block" => say_block(desk, n, out),
         "show" => say_cell(desk.store(), n, out),
+        "names" => say_names(desk.names(), desk.store().len(), out),
         "cells" => say_count(desk.store().len(), out),
         "waiting" => say_count(desk.waiting(), out),
         "next" => say_number(desk.next_waiting(n), out),

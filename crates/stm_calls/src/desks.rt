@@ -6,10 +6,11 @@ ghost use Rattle.stm_events.specs.SlowDesk.{max_clients};
 use crate::blocks::block_of;
 use crate::desk_work::{self, Work};
 use crate::words::{first_word, number, say, say_whether};
-use crate::{desk_calls, desk_show};
+use crate::{declaring, desk_calls, desk_show};
 use std::alloc::{AllocError, Global};
+use stm_check::SharedBlock;
 use stm_desk::Desk;
-use stm_store::Table;
+use stm_store::{Names, Table};
 
 /// How many clients a desk has.
 const CLIENTS: u32 = 128;
@@ -86,11 +87,29 @@ fn open(
     say("done", out)
 }
 
-/// Makes a call that takes a block.
+/// Makes a call that takes a block, if there is one.
 fn answer_block(
     desk: &mut Desk,
     client: u32,
     call: &str,
+    block: Option<SharedBlock>,
+    out: &mut String,
+) -> Result<(), AllocError>
+    requires { client < max_clients }
+{
+    match block {
+        Some(block) => match call {
+            "atomically" => desk_calls::atomically(desk, client, block, out),
+            _ => desk_calls::submit(desk, client, block, out),
+        },
+        None => Ok(()),
+    }
+}
+
+/// Makes a call that takes a block, whose text is checked over the variables of the table in place of the desk's.
+fn answer_foreign(
+    desk: &mut Desk,
+    client: u32,
     table: &Table,
     alloc: Global,
     text: &str,
@@ -98,13 +117,10 @@ fn answer_block(
 ) -> Result<(), AllocError>
     requires { client < max_clients }
 {
-    match block_of(alloc, table, text, out)? {
-        Some(block) => match call {
-            "atomically" => desk_calls::atomically(desk, client, block, out),
-            _ => desk_calls::submit(desk, client, block, out),
-        },
-        None => Ok(()),
-    }
+    let (call, text) = first_word(text);
+    let names = Names::of_table(alloc, table)?;
+    let block = block_of(alloc, &names, text, out)?;
+    answer_block(desk, client, call, block, out)
 }
 
 /// Makes a call that may change the desk.
@@ -152,8 +168,11 @@ fn answer_desk(
             let (call, rest) = first_word(text);
             match call {
                 "submit" | "atomically" => {
-                    answer_block(desk, client, call, table, alloc, rest, out)
+                    let block = block_of(alloc, desk.names(), rest, out)?;
+                    answer_block(desk, client, call, block, out)
                 }
+                "foreign" => answer_foreign(desk, client, table, alloc, rest, out),
+                "declare" => declaring::answer_desk(desk, client, alloc, rest, out),
                 _ => answer_change(
                     desk,
                     &mut desks.work,

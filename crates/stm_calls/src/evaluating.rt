@@ -11,7 +11,7 @@ use std::fmt::Write;
 use std::thread::Threads;
 use stm_check::SharedBlock;
 use stm_eval::{Evaluated, Job, MAX_LEVELS, Reads, evaluate_forked};
-use stm_store::{Frozen, Store, Table};
+use stm_store::{Frozen, Names, Store, Table};
 use stm_terms::text::write_writes;
 use stm_terms::{Verdict, write_verdict};
 
@@ -100,7 +100,8 @@ pub fn answer<R: Threads + Sync>(
     let (call, rest) = first_word(text);
     let (levels, text) = first_word(rest);
     let frozen = opening(alloc, table)?;
-    match block_of(alloc, table, text, out)? {
+    let names = Names::of_table(alloc, table)?;
+    match block_of(alloc, &names, text, out)? {
         Some(block) => answer_block(rt, alloc, &frozen, block, call, number(levels), out),
         None => Ok(()),
     }

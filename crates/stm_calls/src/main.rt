@@ -7,6 +7,7 @@
 
 mod blocks;
 mod checkpoints;
+mod declaring;
 mod desk_calls;
 mod desk_show;
 mod desk_work;

@@ -1,6 +1,7 @@
 //! The calls of a shared desk, each on its own.
 
 use crate::blocks::block_of;
+use crate::declaring;
 use crate::desk_calls::say_finish;
 use crate::words::{first_word, number, say, say_number, say_whether};
 use std::alloc::{AllocError, Global};
@@ -12,7 +13,7 @@ use std::thread::Threads;
 use stm_desk::{CancelError, DeliverError, FinishError, SubmitError};
 use stm_eval::{Evaluated, Job, evaluate};
 use stm_pool::{self, Gate, Next, Pass, SharedDesk, View, ViewError, WorkEnd};
-use stm_store::Table;
+use stm_store::{Names, Table};
 use stm_terms::write_value;
 
 fn submit<L: Ledger, R: Wait>(
@@ -24,7 +25,8 @@ fn submit<L: Ledger, R: Wait>(
     text: &str,
     out: &mut String,
 ) -> Result<(), AllocError> {
-    let Some(block) = block_of(alloc, table, text, out)? else {
+    let names = Names::of_table(alloc, table)?;
+    let Some(block) = block_of(alloc, &names, text, out)? else {
         return Ok(());
     };
     match shared.submit(rt, pass, block) {
@@ -161,6 +163,7 @@ fn answer_pass<L: Ledger, R: Wait>(
 ) -> Result<(), AllocError> {
     match call {
         "submit" => submit(shared, pass, table, rt, alloc, rest, out),
+        "declare_late" => { declaring::answer_shared(shared, pass, table, rt, alloc, rest, out) }
         "finish" => finish(shared, pass, rt, number(rest), out),
         "cancel" => cancel(shared, pass, rt, number(rest), out),
         "view" => view(shared, pass, rt, out),

@@ -18,7 +18,7 @@ use stm_check::SharedBlock;
 use stm_desk::SubmitError;
 use stm_events::{Event, What};
 use stm_pool::{CloseError, Gate, Pass, Report, SharedDesk, WorkEnd, work};
-use stm_store::Table;
+use stm_store::{Names, Table};
 
 /// Holds ticket 1 until ticket 2 was delivered, for ten seconds at most.
 #[derive(Drop)]
@@ -265,7 +265,8 @@ pub fn answer<R: Threads + Wait + Clock + Sync>(
     text: &str,
     out: &mut String,
 ) -> Result<(), AllocError> {
-    match block_of(alloc, table, text, out)? {
+    let names = Names::of_table(alloc, table)?;
+    match block_of(alloc, &names, text, out)? {
         Some(block) => answer_with::<Brand, R>(rt, alloc, Blank::new(3), table, &block, out),
         None => Ok(()),
     }
