@@ -1,2 +1,3 @@
 mod Covered
 mod Errands
+mod TableUses
