@@ -1,10 +1,11 @@
 //! Checkpoints of the store, and machines from them.
 
-ghost use Rattle.std.specs.Prelude.{◌≡◌, IfOk};
+ghost use Rattle.std.specs.Prelude.{◌≡◌, IfOk, IfSome};
 ghost use Rattle.stm_events.specs.SlowDesk.{Slow};
 ghost use Rattle.stm_events.specs.States.{IsTypedState};
 ghost use Rattle.stm_events.specs.declared.staleness.StalenessRule.{StalenessRule};
 ghost use Rattle.stm_machine.specs.Machine.{IsAt};
+ghost use Rattle.stm_store.specs.Cells.{plains, Covers};
 ghost use Rattle.stm_store.specs.Naming.{named_in_table, named_uses};
 
 use crate::blocks::block_of;
@@ -17,7 +18,7 @@ use stm_check::SharedBlock;
 use stm_events::status::Status;
 use stm_events::{Delivery, SharedVerdict};
 use stm_machine::{AddError, Checkpoint, CheckpointBlock, CheckpointError, Machine};
-use stm_store::{Names, Table};
+use stm_store::{Names, Store, Table};
 use stm_terms::text::write_writes;
 use stm_terms::{Fault, News, Ty, Value, Verdict, Writes, write_verdict};
 
@@ -210,6 +211,20 @@ fn uses_of(alloc: Global, table: &Table) -> Result<Vec<(u32, Ty)>, AllocError>
     Ok(uses)
 }
 
+/// The names of a table, if the store has their variables.
+#[tactic(auto, using(crate::proofs::TableUses::covered_names))]
+fn names_on(alloc: Global, store: &Store, table: &Table) -> Result<Option<Names>, AllocError>
+    ensures { IfOk result (λ o. IfSome o (λ names.
+        Covers (plains store.now) (named_uses names))) }
+{
+    let uses = uses_of(alloc, table)?;
+    if !store.covers(uses.as_slice()) {
+        return Ok(None);
+    }
+    let names = Names::of_table(alloc, table)?;
+    Ok(Some(names))
+}
+
 /// A checkpoint of the store, in which the variables of the table have their names, with a next ticket.
 fn open(
     checkpoint: &mut Option<Checkpoint>,
@@ -222,12 +237,11 @@ fn open(
     if next == 0 || next > Checkpoint::MAX_NEXT {
         return say("refused no next ticket", out);
     }
-    if !held.store().covers(&uses_of(alloc, table)?) {
+    let store = held.store();
+    let Some(names) = names_on(alloc, store, table)? else {
         return say("refused no variable of a name", out);
-    }
-    let names = Names::of_table(alloc, table)?;
-    let store = held.store().share()?;
-    *checkpoint = Some(Checkpoint::new(alloc, store, names, next));
+    };
+    *checkpoint = Some(Checkpoint::new(alloc, store.share()?, names, next));
     say("done", out)
 }
 
@@ -245,9 +259,7 @@ pub fn answer(
         ("open", Some(held), _) => open(checkpoint, held, table, alloc, number(rest), out),
         ("add", _, Some(checkpoint)) => answer_add(checkpoint, alloc, rest, out),
         ("show", _, Some(checkpoint)) => say_checkpoint(checkpoint, out),
-        ("names", _, Some(checkpoint)) => {
-            say_names(checkpoint.names(), checkpoint.store().len(), out)
-        }
+        ("names", _, Some(checkpoint)) => say_names(checkpoint.names(), checkpoint.store(), out),
         ("machine", _, Some(checkpoint)) => answer_machine(checkpoint, alloc, out),
         _ => say("refused no store or no checkpoint", out),
     }

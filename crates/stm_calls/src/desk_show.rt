@@ -46,10 +46,10 @@ fn say_cell(store: &Store, id: u32, out: &mut String) -> Result<(), AllocError> 
     writeln!(out, " count {}", store.count(id))
 }
 
-/// Prints the variables that have names, of the first N.
-pub fn say_names(names: &Names, cells: usize, out: &mut String) -> Result<(), AllocError> {
+/// Prints the variables of a store that have names.
+pub fn say_names(names: &Names, store: &Store, out: &mut String) -> Result<(), AllocError> {
     out.push_str("names")?;
-    for number in 0..cells as u32 {
+    for number in 0..store.len() as u32 {
         match names.name_of(number) {
             Some(name) => write!(out, " #{number}={name}")?,
             None => {}
@@ -125,7 +125,7 @@ pub fn answer(desk: &Desk, call: &str, n: u32, out: &mut String) -> Result<(), A
         "reads" => say_reads(desk, n, out),
         "block" => say_block(desk, n, out),
         "show" => say_cell(desk.store(), n, out),
-        "names" => say_names(desk.names(), desk.store().len(), out),
+        "names" => say_names(desk.names(), desk.store(), out),
         "cells" => say_count(desk.store().len(), out),
         "waiting" => say_count(desk.waiting(), out),
         "next" => say_number(desk.next_waiting(n), out),
