@@ -45,7 +45,7 @@ from ._explore import ClientAt, ClientState, Exploration, LineWarning, Outcome, 
 from ._local import find_library
 from ._program import find_program
 from ._values import (
-    Blocks, Cancellation, Cell, Change, Commits, Current, Delivery, Event, Events, Fault, FinalCell, FinalStore, Finish,
+    Blocks, Cancellation, Cell, Change, Commits, Current, Declaration, Delivery, Event, Events, Fault, FinalCell, FinalStore, Finish,
     Finished, FinishedThrows, Job, New, NewRef, Ready, Reason, Ref, Settled, Stale, StaleBefore, StaleBy, Status, Store, Submission,
     Throws, Value, Verdict, Waiting, Waits,
 )  # fmt: skip
@@ -54,7 +54,8 @@ __version__ = "0.13.0"
 
 __all__ = [
     "Answer", "BadAnswer", "Batch", "Blocks", "Cancellation", "Cancelled", "Cell", "Change", "Checked", "ClientAt", "ClientState", "Commits",
-    "Current", "Delivery", "Desk", "DeskClosed", "DeskError", "Ended", "Event", "Events", "Exploration", "Fault", "FinalCell", "FinalStore", "Finding",
+    "Current", "Declaration", "Delivery", "Desk", "DeskClosed", "DeskError", "Ended", "Event", "Events", "Exploration", "Fault", "FinalCell",
+    "FinalStore", "Finding",
     "Finish", "Finished", "FinishedThrows", "Job", "JournalError", "LineWarning", "New", "NewRef", "OutOfMemory", "Outcome", "OutcomeUnknown", "Ready", "Reason",
     "Ref", "Refused", "ScriptRefused", "Settled", "Stale", "StaleBefore", "StaleBy", "Status", "Stopped", "Store", "Submission", "Thrown", "Throws",
     "TimedOut", "Value", "Verdict", "Waiting", "Waits", "check", "connect", "explore", "find_library", "find_program", "or_else",

@@ -10,7 +10,7 @@ from typing import Any
 from ._errors import Refused, Stopped
 from ._hints import JOURNAL, SERVER, hint
 from ._values import (
-    Blocks, Cancellation, Cell, Change, Commits, Current, Delivery, Event, Events, Fault, FinalCell, FinalStore, Finish,
+    Blocks, Cancellation, Cell, Change, Commits, Current, Declaration, Delivery, Event, Events, Fault, FinalCell, FinalStore, Finish,
     Finished, FinishedThrows, Job, New, NewRef, Ready, Reason, Ref, Settled, Stale, StaleBefore, StaleBy, Status, Store, Submission, Throws,
     Value, Verdict, Waiting, Waits,
 )  # fmt: skip
@@ -35,7 +35,9 @@ class Answers:
         self.first: str | None = None  # the command that ended the declarations
 
     def tvar(self, words: Sequence[str]) -> Ref:
-        """`tvar #0 x`: the variable, whose name is kept."""
+        """`tvar #0 x` or `declared #7 x`: the variable, whose name is kept."""
+        if not words[1].startswith("#"):
+            raise ValueError("no variable")
         self.refs[words[1]] = self.named[words[2]] = ref = Ref(int(words[1].removeprefix("#")), words[2])
         return ref
 
@@ -44,13 +46,12 @@ class Answers:
         if command == "declared":
             return
         if isinstance(answer, Refused):
-            is_first = command != "tvar" and answer.name not in ("LineTooLong", "NotAscii")
-        elif isinstance(answer, Ref) and answer.name is not None and command == "tvar":
-            self.types[answer.name] = " ".join(text.partition(":")[2].partition("=")[0].split())
-            is_first = False
+            is_first = command != "tvar" and answer.name not in ("Command", "LineTooLong", "NotAscii")
         else:
-            is_first = True
-        if is_first:
+            is_first = command != "tvar"
+            if isinstance(answer, Ref) and answer.name is not None and command in ("tvar", "declare"):
+                self.types[answer.name] = " ".join(text.partition(":")[2].partition("=")[0].split())
+        if is_first and self.first is None:
             self.first = command
 
     def go_on(self, store: Store) -> None:
@@ -62,7 +63,7 @@ class Answers:
                 self.types[cell.name] = cell.type
 
     def declared(self, lines: Sequence[str]) -> bool:
-        """The lines of a server's `declared`: `#0 x : Int` for each variable, then `declared 1 open`, or `late` if none can be declared
+        """The lines of a server's `declared`: `#0 x : Int` for each variable, then `declared 1 open`, or `late` if `tvar` declares none
         any more. Takes over the variables, and returns whether it is late."""
         _, count, state = lines[-1].split(" ")
         if int(count) != len(lines) - 1 or state not in ("open", "late"):
@@ -261,9 +262,14 @@ class Answers:
             found = json.loads(line)
         except (json.JSONDecodeError, RecursionError):
             found = None
-        if not isinstance(found, dict) or any(type(found.get(key)) is not int for key in ("client", "ticket")):
+        if not isinstance(found, dict) or type(found.get("client")) is not int:
             raise ValueError("no event")
-        kind, head = found["event"], (number, found["client"], found["ticket"])
+        kind = found["event"]
+        if kind == "declared":
+            return Declaration(number, found["client"], found["name"], found["type"], self.recorded(found["init"]))
+        if type(found.get("ticket")) is not int:
+            raise ValueError("no event")
+        head = (number, found["client"], found["ticket"])
         if kind == "submitted":
             return Submission(*head, found["block"])
         if kind == "installed":

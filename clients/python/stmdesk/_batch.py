@@ -7,8 +7,8 @@ from types import TracebackType
 from typing import Any, TypeVar
 
 from ._commands import (
-    ATOMICALLY, CANCEL, CHECKPOINT, DELIVER, DRAIN, EVAL, EVENTS, FINISH, HANDBACK, HISTORY, LOOKS, READS, READY, SETTLE, SHOW, STORE, SUBMIT,
-    TAKE, TRY, TVAR, WHY, Answer, Command, decimal, number_of,
+    ATOMICALLY, CANCEL, CHECKPOINT, DECLARE, DELIVER, DRAIN, EVAL, EVENTS, FINISH, HANDBACK, HISTORY, LOOKS, READS, READY, SETTLE, SHOW, STORE,
+    SUBMIT, TAKE, TRY, TVAR, WHY, Answer, Command, decimal, number_of,
 )  # fmt: skip
 from ._values import Events, Finished, FinishedThrows, Job, Reason, Ref, Settled, Status, Store, Value, Verdict, Waiting
 
@@ -50,6 +50,10 @@ class Commands:
     def tvar(self, declaration: str) -> Answer[Ref]:
         """`Desk.tvar`, when the batch is sent."""
         return self._add(TVAR, declaration)
+
+    def declare(self, declaration: str) -> Answer[Ref]:
+        """`Desk.declare`, when the batch is sent."""
+        return self._add(DECLARE, declaration)
 
     def try_(self, block: str) -> Answer[Verdict]:
         """`Desk.try_`, when the batch is sent."""

@@ -34,6 +34,7 @@ class Command(Generic[T]):
     begin: str | None = None  # the first word of each answer but a refusal, if that is always the same
     take: Callable[[Transport, str], list[str]] | None = None  # takes the lines of an answer of many, given the first
     then: str = ""  # what is sent after it
+    declares: bool = False  # whether its text has the type of a variable, which hints need
     is_seen: bool = False  # whether its answer may say what came of a block that `atomically` waits for
 
     def sent(self, text: str) -> bytes:
@@ -147,7 +148,8 @@ def _history_lines(transport: Transport, first: str) -> list[str]:
     return lines
 
 
-TVAR: Command[Ref] = Command("tvar", Answers.tvar, "tvar")
+TVAR: Command[Ref] = Command("tvar", Answers.tvar, "tvar", declares=True)
+DECLARE: Command[Ref] = Command("declare", Answers.tvar, "declared", declares=True)
 TRY: Command[Verdict] = Command("try", Answers.verdict)
 LOOKS: Command[dict[Ref, Value]] = Command("looks", Answers.reads, "reads")
 SUBMIT: Command[int] = Command("submit", Answers.second, "ticket")

@@ -18,8 +18,8 @@ from typing import Any, Literal, TypeVar, get_args
 from ._answers import Answers
 from ._batch import Batch
 from ._commands import (
-    CANCEL, CHECKPOINT, DECLARED, DELIVER, DRAIN, EVAL, EVENTS, FINISH, HANDBACK, HISTORY, LOOKS, READS, READY, SETTLE, SHOW, STORE, SUBMIT, TAKE,
-    TRY, TVAR, WAITING, WHY, Answer, Command, decimal, number_of,
+    CANCEL, CHECKPOINT, DECLARE, DECLARED, DELIVER, DRAIN, EVAL, EVENTS, FINISH, HANDBACK, HISTORY, LOOKS, READS, READY, SETTLE, SHOW,
+    STORE, SUBMIT, TAKE, TRY, TVAR, WAITING, WHY, Answer, Command, decimal, number_of,
 )  # fmt: skip
 from ._errors import BadAnswer, Cancelled, DeskError, OutOfMemory, Refused, Thrown, TimedOut
 from ._local import begin_local
@@ -163,12 +163,31 @@ class Desk:
     # One method for each command.
 
     def tvar(self, declaration: str) -> Ref:
-        """Declares a variable. All declarations come before the first other command.
+        """Declares a variable, before the first other command. `declare` does so at any time.
 
         >>> desk.tvar("slot : TVar Int = x")
         Ref(1, 'slot')
         """
         return self._ask(TVAR, declaration)
+
+    def declare(self, declaration: str) -> Ref:
+        """Declares a variable, at any time: also on a desk that goes on from its journal, and while blocks wait, which stay as they are. It
+        gets the next number of the store, and its first value may be any declared variable. A block that was refused as `Unknown` may be
+        accepted afterwards. The declaration is an event of the history, a `Declaration`.
+
+        Raises what `tvar` raises but `Late`, and `Refused` with the name `HistoryFull` or `CellsFull`.
+
+        >>> desk.atomically("newTVar 7")
+        Ref(1)
+        >>> desk.declare("slot : TVar Int = x")
+        Ref(2, 'slot')
+        >>> desk.tvar("y : Int = 1")
+        Traceback (most recent call last):
+        stmdesk.Refused: Late
+            tvar y : Int = 1
+            hint: `tvar` declares before the first other command, which was `atomically`: `declare` does so at any time
+        """
+        return self._ask(DECLARE, declaration)
 
     def try_(self, block: str) -> Verdict:
         """What the block would do on the present store, which doesn't change. (`try` is a keyword of Python.)
@@ -379,10 +398,15 @@ class Desk:
 
     def variable(self, declaration: str) -> Ref:
         """The variable of a declaration: the one that has been declared with this name and this type, here or in the journal, or
-        else a new one, as by `tvar`. So a program that keeps a journal begins in the same way at each start.
+        else a new one, as by `tvar`, or by `declare` if it is too late for that. So a program that keeps a journal begins in the same way
+        at each start, and a new release of it may have more variables. The type of one that is there can't change: that is refused as
+        `tvar` refuses it.
 
         >>> desk.variable("x : Int = 0"), desk.variable("y : Int = 0")
         (Ref(0, 'x'), Ref(1, 'y'))
+        >>> ticket = desk.submit("retry")
+        >>> desk.variable("y : Int = 0"), desk.variable("z : Int = 0")
+        (Ref(1, 'y'), Ref(2, 'z'))
         """
         self._transport.check_owner()
         if self._under_way:
@@ -394,13 +418,21 @@ class Desk:
         try:
             return self.tvar(declaration)
         except Refused as refused:
-            if not self._transport.is_shared or refused.name not in ("Late", "Twice"):
+            found = self._found_again(declaration, refused, "Late", "Twice")
+            if found is not None:
+                return found
+            if refused.name != "Late" or declaration.partition(":")[0].strip() in self._answers.named:
                 raise
-            self._take_over()  # somebody else may have declared it
-            found = self._found(declaration)
-            if found is None:
-                raise
-            return found
+            late = refused
+        try:
+            return self.declare(declaration)
+        except Refused as refused:
+            if refused.name == "Command":  # of a program that knows no `declare`
+                raise late from None
+            found = self._found_again(declaration, refused, "Twice")
+            if found is not None:
+                return found
+            raise
 
     def _found(self, declaration: str) -> Ref | None:
         """The variable of this declaration, if it is known."""
@@ -409,6 +441,13 @@ class Desk:
         if found is not None and _one_text(rest.partition("=")[0]) == _one_text(self._answers.types[name.strip()]):
             return found
         return None
+
+    def _found_again(self, declaration: str, refused: Refused, *names: str) -> Ref | None:
+        """The same after a refusal. If that has one of these names, another client of the server may have declared the variable."""
+        if not self._transport.is_shared or refused.name not in names:
+            return None
+        self._take_over()
+        return self._found(declaration)
 
     def atomically(self, block: str, timeout: float | None = None) -> Value:
         """Runs the block and returns its result. While the block retries, waits until what it has read changes.
@@ -547,7 +586,7 @@ class Desk:
 
     @property
     def is_resumed(self) -> bool:
-        """Whether the desk goes on from the history of its journal. Then no variable can be declared any more.
+        """Whether the desk goes on from the history of its journal. Then `tvar` declares no variable any more, and `declare` does.
 
         >>> desk.is_resumed
         False
@@ -604,7 +643,7 @@ class Desk:
         the usual case, since it is most of what a call costs: one line that is answered by one line, which no block of `atomically` needs
         to see."""
         transport, read = self._transport, self._answers
-        if command.take is not None or read.first is None or transport.is_shared or transport.keeps_answers:
+        if command.take is not None or command.declares or read.first is None or transport.is_shared or transport.keeps_answers:
             return self._ask_alone(command, text)
         sent = command.sent(text)
         if getpid() != transport.owner:
@@ -740,7 +779,7 @@ class Desk:
                         it.error = value
                     else:
                         it.value = value
-                    if read.first is None:
+                    if read.first is None or command.declares:
                         read.note(command.word, it.text, value)
             if waits:
                 waits.see(answers)

@@ -78,7 +78,7 @@ _NAMES = {
     "Gone": "its ticket waits no more",
     "HistoryFull": "the history has all the events that it may have: `checkpoint` lets them go",
     "JobsFull": "a desk hands out at most 65,536 jobs: use `eval`, which needs none",
-    "Late": "declare all variables before the first other command",
+    "Late": "`tvar` declares before the first other command: `declare` does so at any time",
     "LineTooLong": "a command has at most 65,536 bytes",
     "NameTooLong": "a name has at most 32 bytes",
     "NoCheckpoint": "no new file could take the place of the journal: standard error says why, and the desk goes on in the old file",
@@ -137,11 +137,11 @@ def hint(
         declared = text.partition(":")[0].strip()
         if declared in types:
             return f"the journal has it already, as `{declared} : {types[declared]}`"
-        return "the desk goes on from its journal, and has the variables that were declared there"
+        return "the desk goes on from its journal, and has the variables that were declared there: `declare` declares another one"
     if name == "Late" and first == SERVER:
-        return "the declarations of the server's desk have ended: `variable` finds what is declared, and `--declare FILE` declares at the start"
+        return "the declarations of the server's desk have ended: `variable` finds what is declared, and `declare` declares another one"
     if name == "Late" and first:
-        return f"declare all variables before the first other command, which was `{first}`"
+        return f"`tvar` declares before the first other command, which was `{first}`: `declare` does so at any time"
     if name == "NotAscii":
         at = next((i for i, letter in enumerate(text) if not letter.isascii()), None)
         return _NAMES[name] if at is None else f"{text[at]!r} at {at} isn't ASCII"
@@ -150,9 +150,9 @@ def hint(
     if name == "Argument" and command in ("eval", "show", "ready", "store", "settle", "drain", "history", "checkpoint"):
         return f"`{command}` takes no argument"
     found = None
-    if command in ("tvar", "try", "looks", "submit", "atomically"):
+    if command in ("tvar", "declare", "try", "looks", "submit", "atomically"):
         tokens = _Tokens(text, place, types)
-        is_declaration = command == "tvar"
+        is_declaration = command in ("tvar", "declare")
         rules: dict[str, Callable[[], str | None]] = {
             "EndOfText": tokens.declaration if is_declaration else tokens.end_of_text,
             "Mismatch": tokens.mismatch,

@@ -350,7 +350,23 @@ class Cancellation:
     ticket: int
 
 
-Event = Submission | Delivery | Finish | Cancellation
+@dataclass(frozen=True)
+class Declaration:
+    """The event that `declare` declared a variable, with this first value. It is of no ticket. Those of `tvar` are no events.
+
+    >>> y = desk.declare("y : TVar Int = x")
+    >>> desk.events()
+    [Declaration(number=1, client=0, name='y', type='TVar Int', init=Ref(0, 'x'))]
+    """
+
+    number: int
+    client: int
+    name: str
+    type: str
+    init: Value
+
+
+Event = Submission | Delivery | Finish | Cancellation | Declaration
 
 
 class Events(list[Event]):

@@ -112,15 +112,24 @@ class Desk:
         )
 
     async def tvar(self, declaration: str) -> Ref:
-        """Declares a variable.
+        """Declares a variable, before the first other command.
 
         >>> run(desk.tvar("y : Int = 2"))
         Ref(1, 'y')
         """
         return await self._call(partial(self._desk.tvar, declaration))
 
+    async def declare(self, declaration: str) -> Ref:
+        """Declares a variable, at any time.
+
+        >>> ticket = run(desk.submit("retry"))
+        >>> run(desk.declare("y : Int = 2"))
+        Ref(1, 'y')
+        """
+        return await self._call(partial(self._desk.declare, declaration))
+
     async def variable(self, declaration: str) -> Ref:
-        """The variable of a declaration, which the journal has, or which is declared.
+        """The variable of a declaration, which is declared if it isn't there.
 
         >>> run(desk.variable("x : Int = 0")), run(desk.variable("y : Int = 0"))
         (Ref(0, 'x'), Ref(1, 'y'))

@@ -106,7 +106,7 @@ class Journals(InThreads):
             self.assertEqual([desk.variable(it) for it in spelled], refs)
         with self.open() as desk:
             self.assert_is([desk.variable(it) for it in spelled], refs)
-            for wrong in ("x : Bool = True", "slot : TVar (TVar Int) = x", "new : Int = 1", "x", ""):
+            for wrong in ("x : Bool = True", "slot : TVar (TVar Int) = x", "x"):
                 self.assert_refused(lambda wrong=wrong: desk.variable(wrong), "Late")
             with self.assertRaisesRegex(Refused, "hint: the journal has it already, as `x : Int`"):
                 desk.tvar("x : Bool = True")

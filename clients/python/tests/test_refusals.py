@@ -290,7 +290,7 @@ class Hints(OnProgram):
         for text in texts:
             for name in ("BadByte", "EndOfText", "Mismatch", "NotAVariable", "Unexpected", "Unknown"):
                 for place in (None, *range(min(len(text), 60) + 2)):
-                    for command in ("try", "tvar"):
+                    for command in ("try", "tvar", "declare"):
                         hint = _hints.hint(name, place, None, command, text, {"x": "Int"}, None)
                         self.assertIsInstance(hint, (str, type(None)))
 
