@@ -20,8 +20,8 @@ from ._numbers import Numbers, Range
 # Commands that change nothing, and those that may. A question that is the first command ends the declarations all the same.
 QUESTIONS = {b"try", b"looks", b"show", b"ready", b"reads", b"why", b"store", b"history", b"events", b"declared"}
 CHANGES = {
-    b"tvar", b"submit", b"atomically", b"take", b"deliver", b"handback", b"eval", b"finish", b"cancel", b"settle", b"drain", b"checkpoint",
-    b"wait",
+    b"tvar", b"declare", b"submit", b"atomically", b"take", b"deliver", b"handback", b"eval", b"finish", b"cancel", b"settle", b"drain",
+    b"checkpoint", b"wait",
 }  # fmt: skip
 # Those that give a block a ticket.
 SUBMISSIONS = {b"submit", b"atomically", b"wait"}
@@ -306,6 +306,8 @@ class Machine:
                 if word(line) in SUBMISSIONS and len(self.waiting) + self._submissions >= self.max_waiting:
                     await self._flush(script)  # some of the blocks in the script may end at once
                 self._line(line, (name, number, place), session.requests[number].slots, script)
+                if word(line) == b"declare" and self.is_declaring:
+                    await self._flush(script)  # it ends the declarations, unless the program has no such command
             self._answered(name, number)
 
     def _line(self, line: bytes, where: Where, slots: list[Lines | None], script: list[Given]) -> None:
@@ -328,7 +330,7 @@ class Machine:
             if self.declared_size > DECLARED:
                 slots[where[2]] = [b"refused TableFull"]
                 return
-        elif its in QUESTIONS and its != b"declared" or its in CHANGES and its != b"tvar":
+        elif its in QUESTIONS and its != b"declared" or its in CHANGES and its not in (b"tvar", b"declare"):
             self.is_declaring = False
         kind = {b"wait": "wait", b"declared": "declared"}.get(its, "line")
         script.append(Given(line, kind, where, int(kind == "declared" and self.is_declaring)))
@@ -364,6 +366,8 @@ class Machine:
 
     async def _refused(self, given: Given, answer: Lines) -> None:
         name = answer[0].split(b" ")[1]
+        if given.word == b"declare" and name != b"Command":
+            self.is_declaring = False
         self.is_full |= name == b"HistoryFull" and given.kind != "line"
         if given.kind in ("line", "wait", "declared"):
             self._fill(given.where, answer)
@@ -397,10 +401,10 @@ class Machine:
                 return
             if given.where and not self._keeps(given.where[0]):
                 self.owned[ticket] = given.where[0]
-        elif given.word == b"tvar":
-            self.declared.append(words[1] + b" " + given.line.strip(b"\t\r ")[4:].partition(b"=")[0].strip(b"\t\r "))
-            name, _, kind = self.declared[-1].partition(b" ")[2].partition(b":")
-            self.declared[-1] = b"%s %s : %s" % (words[1], name.strip(), b" ".join(kind.split()))
+        elif given.word in (b"tvar", b"declare"):
+            self.is_declaring &= given.word == b"tvar"
+            kind = given.line.partition(b":")[2].partition(b"=")[0]
+            self.declared.append(b"%s %s : %s" % (words[1], words[2], b" ".join(kind.split())))
         elif given.word == b"finish":
             self._over(int(words[1]), answer)
             self._finished(words)
@@ -425,7 +429,7 @@ class Machine:
 
     def _count(self, given: Given, words: list[bytes]) -> None:
         events = 0
-        if given.word in (b"submit", b"deliver", b"finish", b"cancel"):
+        if given.word in (b"declare", b"submit", b"deliver", b"finish", b"cancel"):
             events = 1
             self.counts["finished"] += given.word == b"finish"
             self.counts["evaluations"] += given.word == b"deliver"
