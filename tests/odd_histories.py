@@ -12,6 +12,8 @@ TOOLS = HERE.parent / "tools"
 HEAD = b'{"format":3,"vars":1}\n{"init":1,"name":"x","type":"Int"}\n'
 CHECKPOINT = b'{"format":4,"next":3,"vars":1,"waiting":1}\n{"count":0,"init":1,"name":"x","type":"Int"}\n'
 WAITING = b'{"block":"readTVar x","reads":[[0,1]],"stale":false,"ticket":1,"verdict":{"commits":{"news":[],"result":1,"writes":[]}}}\n'
+LATE = HEAD.replace(b'"format":3', b'"format":5')
+DECLARED = b'{"client":0,"event":"declared","init":2,"name":"y","type":"Int"}\n'
 SUBMITTED = b'{"block":"readTVar x","client":0,"event":"submitted","ticket":1}\n'
 FINISHED = (
     b'{"client":0,"event":"finished","first_new":1,"stale":[],"ticket":1,'
@@ -47,10 +49,17 @@ def odd():
     yield CHECKPOINT.replace(b'"waiting":1', b'"waiting":2') + WAITING + WAITING + FINISHED, "ticket 1 waits twice"
     yield CHECKPOINT.replace(b'"waiting":1', b'"waiting":2') + WAITING + FINISHED, "line 4 is no waiting block"
     for header in changed(CHECKPOINT.partition(b"\n")[0], b'"waiting":1', [b"-1", b"true", b"1.0", b"null"]):
-        yield header + CHECKPOINT[CHECKPOINT.index(b"\n") :] + WAITING + FINISHED, "this is no history of format 1 to 4"
-    headers = changed(HEAD, b'"vars":1', [b"-1", b"true", b"1.0", b"null"]) + changed(HEAD, b'"format":3', [b"0", b"5", b"3.0", b"true"])
+        yield header + CHECKPOINT[CHECKPOINT.index(b"\n") :] + WAITING + FINISHED, "this is no history of format 1 to 5"
+    headers = changed(HEAD, b'"vars":1', [b"-1", b"true", b"1.0", b"null"]) + changed(HEAD, b'"format":3', [b"0", b"6", b"3.0", b"true"])
     for header in headers:
-        yield header + SUBMITTED, "this is no history of format 1 to 4"
+        yield header + SUBMITTED, "this is no history of format 1 to 5"
+    for text in changed(DECLARED, b'"init":2', NO_VALUES) + changed(DECLARED, b'"name":"y"', [b"7", b"null", b"[]", b'"x"']):
+        yield LATE + text, "line 3 is no event that can be drawn here"
+    for text in changed(DECLARED, b'"type":"Int"', [b"7", b"null", b"{}"]) + changed(DECLARED, b'"client":0', NO_NUMBERS):
+        yield LATE + text, "line 3 is no event that can be drawn here"
+    yield LATE + DECLARED + DECLARED, "line 4 is no event that can be drawn here"
+    for header in changed(CHECKPOINT.partition(b"\n")[0].replace(b"4", b"5"), b'"waiting":1', [b"-1", b"true", b"1.0", b"null"]):
+        yield header + CHECKPOINT[CHECKPOINT.index(b"\n") :] + WAITING + FINISHED, "this is no history of format 1 to 5"
     for text in changed(SUBMITTED, b'"block":"readTVar x"', [b"7", b"null", b"[]"]) + changed(SUBMITTED, b'"ticket":1', NO_NUMBERS):
         yield HEAD + text, "line 3 is no event that can be drawn here"
     for text in changed(SUBMITTED, b'"client":0', NO_NUMBERS) + changed(SUBMITTED, b'"event":"submitted"', [b'"Submitted"', b"[]", b"{}"]):

@@ -20,6 +20,10 @@ class Retry(Exception):
     """The block gives up."""
 
 
+class Unknown(LookupError):
+    """A name that is neither bound nor declared: its argument is the number of its token in the text, counted from 0."""
+
+
 class Thrown(Exception):
     """The block throws: its argument is a number, or OVERFLOW."""
 
@@ -89,7 +93,8 @@ def in_range(number: int) -> int:
 
 
 def parsed(text: str, declared: Mapping[str, Value]) -> Action:
-    """The action of a block's text, in which these names are variables. Raises ValueError or LookupError if it is none."""
+    """The action of a block's text, in which these names are variables. Raises ValueError or LookupError if it is none: `Unknown` for a
+    name that is neither bound there nor one of these."""
     parser = Parser(text, declared)
     if len(parser.words) - 1 > MOST_TOKENS:
         raise ValueError
@@ -102,6 +107,7 @@ def parsed(text: str, declared: Mapping[str, Value]) -> Action:
 class Parser:
     def __init__(self, text: str, declared: Mapping[str, Value]) -> None:
         self.words, self.at, self.declared = [*TOKEN.findall(text), ""], 0, declared
+        self.bound: list[str] = []  # the names that are bound where the parser is
 
     def next(self) -> str:
         self.at += 1
@@ -149,10 +155,12 @@ class Parser:
 
     def sequence(self) -> Action:
         self.need("{")
+        outside = len(self.bound)
         steps: list[tuple[str | None, Action]] = [self.statement()]
         while self.skips(";"):
             steps.append(self.statement())
         self.need("}")
+        del self.bound[outside:]
 
         def run_all(run: Run, names: Locals) -> Value:
             names, result = dict(names), None
@@ -170,11 +178,14 @@ class Parser:
             name = self.next()
             self.need("=")
             value = self.expression()
+            self.bound.append(name)
             return name, lambda run, names: value(names)
         if self.words[self.at + 1 : self.at + 2] == ["<-"]:
             name = self.next()
             self.need("<-")
-            return name, self.action()
+            action = self.action()
+            self.bound.append(name)
+            return name, action
         return None, self.action()
 
     def choice(self) -> Action:
@@ -195,7 +206,10 @@ class Parser:
         return run_either
 
     def catch(self) -> Action:
-        action, name, handler = self.bracketed(), self.next(), self.bracketed()
+        action, name = self.bracketed(), self.next()
+        self.bound.append(name)
+        handler = self.bracketed()
+        self.bound.pop()
 
         def run_catch(run: Run, names: Locals) -> Value:
             has_returned, result = run.attempt(action, names, Thrown)
@@ -264,8 +278,12 @@ class Parser:
             return lambda names: constant
         if not word[:1].islower():
             raise ValueError
-        declared = self.declared
-        return lambda names: names[word] if word in names else declared[word]
+        if word in self.bound:
+            return lambda names: names[word]
+        if word not in self.declared:
+            raise Unknown(self.at - 1)
+        variable = self.declared[word]
+        return lambda names: variable
 
 
 def retry(run: Run, names: Locals) -> Value:

@@ -51,20 +51,23 @@ def objects(lines: Iterable[bytes]) -> Iterator[tuple[int, Object]]:
 
 @dataclass
 class Head:
-    """What comes before the events: the format, the lines of the variables, and in format 4 those of the blocks that wait already. In
-    the other formats all variables are declared ones."""
+    """What comes before the events: the format, the lines of the variables, and from a checkpoint those of the blocks that wait already.
+    Without one all variables are declared ones."""
 
     format: int
     variables: list[Object]
     waiting: list[Object] = field(default_factory=list)
+    is_checkpoint: bool = False
 
     @property
-    def declared(self) -> list[Object]:
-        return [it for it in self.variables if it["name"] is not None]
+    def numbers(self) -> dict[str, int]:
+        """The number of each declared variable, by its name."""
+        return {it["name"]: at for at, it in enumerate(self.variables) if it["name"] is not None}
 
     @property
-    def names(self) -> list[str]:
-        return [clean(it["name"]) for it in self.declared]
+    def names(self) -> dict[int, str]:
+        """The name of each declared variable, by its number."""
+        return {at: clean(name) for name, at in self.numbers.items()}
 
     @property
     def lines(self) -> int:
@@ -76,12 +79,13 @@ def head(found: Iterator[tuple[int, Object]]) -> Head:
     nothing: tuple[int, Object] = (0, {})
     _, header = next(found, nothing)
     kind = header.get("format")
-    counts = (kind, header.get("vars"), header.get("waiting") if kind == 4 else 0)
-    if not all(type(it) is int and it >= 0 for it in counts) or kind not in (1, 2, 3, 4):
-        raise NotDrawn(f"this is no history of format 1 to 4; {JUDGE}")
+    is_checkpoint = kind == 4 or kind == 5 and "next" in header
+    counts = (kind, header.get("vars"), header.get("waiting") if is_checkpoint else 0)
+    if not all(type(it) is int and it >= 0 for it in counts) or kind not in (1, 2, 3, 4, 5):
+        raise NotDrawn(f"this is no history of format 1 to 5; {JUDGE}")
     variables = taken(found, header["vars"], "name", "variable", need_variable)
-    waiting = taken(found, header["waiting"], "ticket", "waiting block", need_waiting) if kind == 4 else []
-    return Head(kind, variables, waiting)
+    waiting = taken(found, header["waiting"], "ticket", "waiting block", need_waiting) if is_checkpoint else []
+    return Head(kind, variables, waiting, is_checkpoint)
 
 
 def taken(found: Iterator[tuple[int, Object]], count: int, key: str, what: str, need_line: Callable[[Object], None]) -> list[Object]:
@@ -165,9 +169,14 @@ def need_waiting(it: Object) -> None:
 
 def need_event(it: Object) -> None:
     kind = it["event"]
-    need(kind in ("submitted", "installed", "finished", "cancelled"))
-    need_number(it["ticket"])
+    need(kind in ("declared", "submitted", "installed", "finished", "cancelled"))
     need_number(it.get("client", 0))
+    if kind == "declared":
+        need_text(it["name"])
+        need_text(it["type"])
+        need_value(it["init"])
+        return
+    need_number(it["ticket"])
     if kind == "submitted":
         need_text(it["block"])
     elif kind != "cancelled":
@@ -208,8 +217,8 @@ class Replay:
     def __init__(self, found: Head) -> None:
         self.is_by_value = found.format >= 3
         self.cells = [self.value(it.get("init"), 0) for it in found.variables]
-        self.declared = {str(it["name"]): ("old", at) for at, it in enumerate(found.declared)}
-        self.actions: dict[str, blocks.Action | None] = {}
+        self.declared = {name: ("old", at) for name, at in found.numbers.items()}
+        self.actions: dict[str, blocks.Action] = {}
         self.texts: dict[int, str] = {}
         self.reads: dict[int, frozenset[int] | None] = {}
         for it in found.waiting:
@@ -230,6 +239,11 @@ class Replay:
     def step(self, event: Object) -> Effect:
         """Takes in an event. Raises one of NOT_AN_EVENT if it is none."""
         need_event(event)
+        if event["event"] == "declared":
+            need(event["name"] not in self.declared)
+            self.declared[event["name"]] = ("old", len(self.cells))
+            self.cells.append(self.value(event["init"], 0))
+            return Effect()
         kind, ticket, effect = event["event"], event["ticket"], Effect()
         need((kind == "submitted") == (ticket not in self.texts))
         if kind == "submitted":
@@ -260,16 +274,10 @@ class Replay:
 
     def reads_of(self, text: str, recorded: Any) -> frozenset[int] | None:
         """What a block reads of the present store, or None if its verdict there isn't the recorded one."""
-        if text not in self.actions:
-            try:
-                self.actions[text] = blocks.parsed(text, self.declared)
-            except NOT_AN_EVENT:
-                self.actions[text] = None
-        action = self.actions[text]
-        if action is None:
-            return None
         try:
-            verdict, reads = blocks.outcome(action, self.cells)
+            if text not in self.actions:  # one that is none now may be one when a variable more is declared
+                self.actions[text] = blocks.parsed(text, self.declared)
+            verdict, reads = blocks.outcome(self.actions[text], self.cells)
         except NOT_AN_EVENT:
             return None
         return frozenset(reads) if verdict == self.verdict(recorded) else None

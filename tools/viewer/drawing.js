@@ -1,6 +1,6 @@
 // ---- Drawing -------------------------------------------------------------------------------------------------------
 
-const COLORS = ("paper band ink muted line grid commits blocks throws on new stale ground hatch finished cancelled arrow cursor").split(" ");
+const COLORS = ("paper band ink muted line grid commits blocks throws on new stale ground hatch finished cancelled declared arrow cursor").split(" ");
 let color = {}, hatch = null, crossed = null;
 function theme(name) {
   document.documentElement.dataset.theme = name;
@@ -42,8 +42,12 @@ function bar(c, what, left, right, y, height) {
   c.setLineDash(what == "new" ? [3, 2.5] : []); c.stroke(); c.setLineDash([]);
 }
 
-// The sign of an event: s, i, f, t (finished by a throw) or c.
+// The sign of an event: d, s, i, f, t (finished by a throw) or c.
 function sign(c, kind, x, y, r) {
+  if (kind == "d") {
+    c.beginPath(); c.moveTo(x, y - r); c.lineTo(x + r, y); c.lineTo(x, y + r); c.lineTo(x - r, y); c.closePath();
+    c.fillStyle = color.declared; c.fill(); return;
+  }
   c.beginPath(); c.lineWidth = Math.max(1, r / 4.5);
   if (r < 3.2) {
     c.fillStyle = c.strokeStyle = kind == "f" ? color.finished : kind == "t" ? color.throws : kind == "c" ? color.cancelled : color.ink;
@@ -96,6 +100,7 @@ function draw() {
   const faded = index => { c.globalAlpha = c.base = dim && !dim.has(index) ? 0.28 : 1; };
   for (const index of visible) { faded(index); bars(c, index); }
   c.globalAlpha = c.base = 1;
+  declarations(c);
   if (L.perEvent > 0.8) arrows(c);
   for (const index of visible) { faded(index); marks(c, index, touched); }
   c.globalAlpha = c.base = 1;
@@ -203,6 +208,18 @@ function badge(c, letter, x, y) {
   c.fillText(letter, x, top + 5.5);
 }
 
+// A line through the lanes for each variable that is declared, with its sign at the top.
+function declarations(c) {
+  let last = -1e9;
+  for (let i = Math.max(0, lastUpTo(declaredAt, S.from - 1)); i < declaredAt.length && declaredAt[i] <= S.to + 1; i++) {
+    const x = X(declaredAt[i]);
+    if (x - last < 1) continue;
+    c.fillStyle = color.declared; c.globalAlpha = 0.45; c.fillRect(Math.round(x) - 0.5, L.axis, 1, L.height); c.globalAlpha = 1;
+    if (L.perEvent > 2) sign(c, "d", x, L.axis + 6, clamp(L.perEvent * 0.42, 2, 6));
+    last = x;
+  }
+}
+
 function arrows(c) {
   c.lineWidth = L.perEvent > 5 ? 1.6 : 1; c.strokeStyle = c.fillStyle = color.arrow;
   for (let e = Math.max(1, Math.ceil(S.from)); e <= Math.min(E, S.to); e++) {
@@ -268,7 +285,7 @@ function cursor(c) {
 }
 
 function labels(c, first, last) {
-  const all = rows(), wide = Math.max(2, String(lives.at(-1).ticket).length) * 7 + 12;
+  const all = rows(), wide = Math.max(2, String(lives.at(-1)?.ticket ?? "").length) * 7 + 12;
   c.save(); c.beginPath(); c.rect(0, L.axis, L.gutter - 4, L.height); c.clip();
   c.textBaseline = "middle";
   const each = Math.ceil(11 / L.lane);
@@ -324,6 +341,7 @@ function overview() {
 
 function legend() {
   const signs = [["s", "submitted"], ["i", "evaluated"], ["f", "finished"], ["t", "finished by a throw"], ["c", "cancelled"]];
+  if (declaredAt.length) signs.push(["d", "variable declared"]);
   const looks = [["new", "new"], ["commits", "current"], ["blocks", "current, blocks"], ["throws", "current, throws"], ["stale", "stale"]];
   $("legend").replaceChildren(...[...signs, ...looks, ["arrow", "makes stale"]].map(([kind, text]) => {
     const span = document.createElement("span"), canvas = document.createElement("canvas");

@@ -12,6 +12,7 @@ const lives = [];    // of each ticket: from its submission, or 0 if it waited b
 const store = data.vars.map(([name, type, init]) => ({name, type, at: [0], value: [init]}));
 const changes = [];  // of a finish: [variable, before, after]
 const madeStale = []; // of a finish: the lives
+const declaredAt = []; // the events that declare a variable, which are of no life
 const kindOf = e => data.kinds[e - 1], argOf = e => data.arg[e - 1], readsAt = e => data.reads[e - 1];
 
 function build() {
@@ -22,6 +23,11 @@ function build() {
   }
   for (let e = 1; e <= E; e++) {
     const kind = kindOf(e), ticket = data.ticket[e - 1];
+    if (kind == "d") {
+      const [name, type, init] = data.declared[argOf(e)];
+      store.push({name, type, at: [e], value: [init]}); declaredAt.push(e); lifeOf[e] = -1;
+      continue;
+    }
     if (kind == "s") {
       waiting.set(ticket, lives.length);
       const stretches = {at: [e], state: [NEW], verdict: [-1], reads: [-1], why: [0]};
@@ -89,7 +95,7 @@ function touching(variable) {
     const written = data.verdicts.map(it => it.length == 3 && it[0].some(w => w[0] == variable));
     for (let e = 1; e <= E; e++) {
       if (kindOf(e) == "i" && read[readsAt(e)]) found.push([e, "R"]);
-      if (kindOf(e) == "f" && (written[argOf(e)] || store[variable].at[0] == e)) found.push([e, "W"]);
+      if (kindOf(e) == "f" && written[argOf(e)] || store[variable].at[0] == e) found.push([e, "W"]);
     }
     if (touchMemo.size > 8) touchMemo.clear();
     touchMemo.set(variable, found);

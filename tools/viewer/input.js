@@ -8,12 +8,12 @@ function go(e, isShown = true) {
   S.at = clamp(Math.round(e), 0, E);
   if (isShown && (S.at < S.from || S.at > S.to)) view(S.at - (S.to - S.from) / 2, S.at + (S.to - S.from) / 2);
   if (S.state && ["new", "current", "stale", "blocks"].includes(S.state)) filter();
-  if (isShown && S.at) reveal(lifeOf[S.at]);
+  if (isShown && S.at && lifeOf[S.at] >= 0) reveal(lifeOf[S.at]);
   if (document.activeElement != $("at")) $("said").textContent = said(S.at); // else the slider says it
   refresh();
 }
 
-const said = e => e ? `event ${e}: ticket ${lives[lifeOf[e]].ticket} ${eventText(e)}` : "before the first event";
+const said = e => e ? `event ${e}: ${lifeOf[e] < 0 ? "" : `ticket ${lives[lifeOf[e]].ticket} `}${eventText(e)}` : "before the first event";
 
 function reveal(index) {
   L.perEvent = (L.width - L.gutter - 14) / (S.to - S.from); lanes();
@@ -44,14 +44,14 @@ function step(direction) {
   let list = S.variable >= 0 ? touching(S.variable).map(it => it[0]) : null;
   if (life) list = eventsOf(life);
   if (list) { const at = direction > 0 ? list[lastUpTo(list, S.at) + 1] : list[lastUpTo(list, S.at - 1)]; if (at) go(at); return; }
-  for (let e = S.at + direction; e >= 1 && e <= E; e += direction) if (shown[lifeOf[e]]) return go(e);
+  for (let e = S.at + direction; e >= 1 && e <= E; e += direction) if (passes(e)) return go(e);
 }
 
 const deeds = {
   in: () => zoom(0.6), out: () => zoom(1 / 0.6), all: () => view(0.5, E + 0.5),
   left: () => shift(-0.4), right: () => shift(0.4),
   prev: () => go(S.at - 1), next: () => go(S.at + 1),
-  match: () => { for (let n = 1, e = Math.max(S.at, Math.floor(S.to)); n <= E; n++) { e = e % E + 1; if (shown[lifeOf[e]]) return go(e); } },
+  match: () => { for (let n = 1, e = Math.max(S.at, Math.floor(S.to)); n <= E; n++) { e = e % E + 1; if (passes(e)) return go(e); } },
   theme: () => { const name = document.documentElement.dataset.theme == "dark" ? "light" : "dark"; keep("stmdesk-theme", name); theme(name); },
   help: () => $("help").showModal(),
   clear: () => {
@@ -116,7 +116,7 @@ document.addEventListener("keydown", it => {
   keys[it.key](); it.preventDefault();
 });
 
-// What is below a place of the chart: an arrow (its event), or a life with its stretch and, near a sign, its event.
+// What is below a place of the chart: an arrow or a declaration (its event), or a life with its stretch and, near a sign, its event.
 function hit(x, y) {
   if (y < L.axis || x > L.width) return null;
   const row = L.lanes[Math.floor((y - L.axis + S.scroll) / L.lane)], e = eventAtX(x), near = Math.round(e);
@@ -130,12 +130,13 @@ function hit(x, y) {
     const ys = [lifeOf[near], ...madeStale[near]].map(yOf).filter(it => it !== null);
     if (y >= Math.min(...ys) && y <= Math.max(...ys) && Math.abs(X(near) - x) <= 5) return {arrow: near, event: near};
   }
-  if (!life || e < life.start || life.end && e > life.end) return null;
+  if (!life || e < life.start || life.end && e > life.end) return isNear && kindOf(near) == "d" ? {declared: near, event: near} : null;
   return {life: index, part: lastUpTo(life.at, e), event: 0};
 }
 
 function hitHtml(it) {
   if (it.arrow) return arrowHtml(it.arrow);
+  if (it.declared) return `<p><b>Event ${it.declared}</b>: ${esc(eventText(it.declared))}</p>`;
   const life = lives[it.life], i = it.part;
   let text = `<p><b>Ticket ${life.ticket}</b> <span class="muted">client ${life.client}</span>${i < 0 ? ` ${esc(outcome(life))}` : ""}</p>`;
   if (it.event) text += `<p>Event ${it.event}: ${esc(eventText(it.event))}</p>`;
@@ -200,7 +201,7 @@ function lift(it) {
   if (pointers.size) { drag = null; return; }
   if (drag && !drag.hasMoved && !drag.isAxis && it.type == "pointerup") {
     const found = hit(it.offsetX, it.offsetY);
-    if (found?.event) { if (!found.arrow) S.life = found.life; S.tab = "event"; S.isStore = false; go(found.event, false); }
+    if (found?.event) { if (!found.arrow && !found.declared) S.life = found.life; S.tab = "event"; S.isStore = false; go(found.event, false); }
     else if (found) { if (found.part >= 0) go(eventAtX(it.offsetX) - 0.5, false); choose("life", found.life); }
     else { S.life = -1; S.tab = "event"; go(eventAtX(it.offsetX) - 0.5, false); }
     if (it.pointerType == "touch") tip(found, it.clientX, it.clientY);
@@ -249,7 +250,7 @@ function begin() {
   if (!kept && !asked.get("theme")) system.addEventListener("change", it => theme(it.matches ? "dark" : "light"));
   $("size").textContent = `${count(E, "event")}, ${count(lives.length, "ticket")}`;
   $("at").max = E;
-  $("names").replaceChildren(...declared.slice(0, 2000).map(([name]) => new Option(name)));
+  $("names").replaceChildren(...[...numbers.keys()].slice(0, 2000).map(name => new Option(name)));
   const narrow = innerWidth < 600;
   if (E > (narrow ? 40 : 120)) view(0.5, narrow ? 24.5 : 60.5);
   if (events) view(events[1] - 0.5, +events[2] + 0.5);

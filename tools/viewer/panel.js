@@ -2,9 +2,13 @@
 
 function eventHtml(e) {
   const before = data.waiting.length ? ` ${count(data.waiting.length, "block")} already wait${data.waiting.length == 1 ? "s" : ""}.` : "";
-  if (!e) return `<h2>Before the first event</h2><p>The store has ${count(declared.length, "declared variable")}.${before}</p>${wholeHtml()}`;
+  if (!e) return `<h2>Before the first event</h2><p>The store has ${count(data.vars.filter(it => it[0] !== null).length, "declared variable")}.${before}</p>${wholeHtml()}`;
   const index = lifeOf[e], life = lives[index], kind = kindOf(e), client = data.client[e - 1] || 0;
   let text = `<h2>Event ${e} <span class="muted">line ${1 + data.vars.length + data.waiting.length + e}, client ${client}</span></h2>`;
+  if (kind == "d") {
+    const [name, type, init] = data.declared[argOf(e)], number = numbers.get(name);
+    return text + `<p>${variableLink(number)} is <b>declared</b>, as #${number} : ${esc(type)} = ${valueHtml(init)}.</p>`;
+  }
   const i = kind == "i" ? lastUpTo(life.at, e) : life.at.length - 1;
   if (kind == "s") text += `<p>${ticketLink(index)} is <b>submitted</b>.</p>${pretty(blockOf(life))}`;
   if (kind == "i") text += `<p>${ticketLink(index)} is <b>evaluated</b>: ${esc(verdictText(argOf(e)))}.</p><p>It ${readsHtml(life.reads[i], e)}.</p>`;
@@ -70,7 +74,9 @@ function variableHtml(variable) {
   if (variable < 0) return '<p class="muted">Choose a variable: click it in the store or in a block.</p>';
   const it = store[variable], all = touching(variable), now = valueAt(variable, S.at);
   const line = i => {
-    const [e, how] = all[i], said = how == "R" ? `read ${valueHtml(valueAt(variable, e))}` : wroteHtml(variable, e);
+    const [e, how] = all[i];
+    if (lifeOf[e] < 0) return `<span class="badge">${how}</span> declared with ${valueHtml(it.value[0])}`;
+    const said = how == "R" ? `read ${valueHtml(valueAt(variable, e))}` : wroteHtml(variable, e);
     return `<span class="badge">${how}</span> ${ticketLink(lifeOf[e])} ${said}`;
   };
   return `<h2>${esc(nameOf(variable))} <span class="muted">#${variable} : ${esc(it.type)}</span></h2>
@@ -107,7 +113,7 @@ function below(follow) {
   const box = $("below");
   if (S.low == "events") {
     return rowsOf(box, E, (i, place) => `<div class="row${i + 1 == S.at ? " at" : ""}"${i + 1 == S.at ? ' aria-current="true"' : ""} ${place} data-event="${i + 1}"><span>${i + 1}</span>
-<span class="mono">${lives[lifeOf[i + 1]].ticket}</span><span class="grow">${esc(eventText(i + 1))}</span></div>`, follow ? S.at - 1 : -1);
+<span class="mono">${lives[lifeOf[i + 1]]?.ticket ?? ""}</span><span class="grow">${esc(eventText(i + 1))}</span></div>`, follow ? S.at - 1 : -1);
   }
   const changed = new Map((changes[S.at] || []).map(it => [it[0], it])), asked = $("find").value.toLowerCase();
   cells = [];

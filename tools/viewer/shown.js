@@ -22,8 +22,8 @@ function rows() {
     const key = life => S.by == "client" ? life.client : life.block, groups = new Map();
     const begins = lives.flatMap((life, i) => life.start ? [] : [i]), events = Array.from({length: E}, (_, i) => i + 1);
     for (const [index, kind] of [...begins.map(i => [i, "s"]), ...events.map(e => [lifeOf[e], kindOf(e)])]) {
+      if (kind == "i" || kind == "d") continue;
       const life = lives[index];
-      if (kind == "i") continue;
       if (!groups.has(key(life))) groups.set(key(life), {rows: [], free: []});
       const group = groups.get(key(life));
       if (kind == "s") {
@@ -45,6 +45,7 @@ function rows() {
 // Which lives the filters let through.
 let shown = new Uint8Array(lives.length).fill(1), version = 0;
 const isFiltered = () => S.text || S.name || S.state;
+const passes = e => lifeOf[e] < 0 ? !isFiltered() : shown[lifeOf[e]];
 function filter() {
   version++;
   const variable = S.name ? store.findIndex((it, i) => it.name == S.name || "#" + i == S.name) : -1;

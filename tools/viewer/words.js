@@ -41,7 +41,7 @@ const stateText = (life, i) => STATES[life.state[i]] + (life.state[i] == CURRENT
 
 // A block with a line for each statement, as HTML.
 const WORDS = new Set("do let if then else return readTVar writeTVar newTVar retry orElse throw catch True False".split(" "));
-const declared = data.vars.filter(it => it[0] !== null), numbers = new Map(declared.map((it, i) => [it[0], i]));
+const numbers = new Map(); // of declared variables, by their names
 function pretty(text) {
   let out = "", depth = 0, before = "";
   const line = () => "\n" + "  ".repeat(depth);
@@ -78,9 +78,15 @@ function whyHtml(life, i) {
   return `${ticketLink(lifeOf[e])} finished and changed ${some(causes(life, i), 12, changeHtml) || "what it had read"}${unknown}`;
 }
 
+function declarationText(e) {
+  const [name, type, init] = data.declared[argOf(e)];
+  return `${name} : ${type} = ${valueText(init, 0)}`;
+}
+
 // What an event is, in a line of text.
 function eventText(e) {
   const life = lives[lifeOf[e]], kind = kindOf(e);
+  if (kind == "d") return "declared: " + declarationText(e);
   if (kind == "s") return `submitted: ${oneLine(blockOf(life)).slice(0, 200)}`;
   if (kind == "i") return `evaluated: ${verdictText(argOf(e))}`;
   if (kind == "c") return "cancelled";
@@ -89,3 +95,4 @@ function eventText(e) {
 }
 
 build();
+store.forEach((it, i) => { if (it.name !== null) numbers.set(it.name, i); });

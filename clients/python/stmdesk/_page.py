@@ -8,9 +8,9 @@ PAGE = """<!doctype html>
 <title>NAME_OF_SERVER – stmdesk</title>
 <style>
 :root{color-scheme:light;--page:#f6f8fa;--paper:#fff;--band:#f6f8fa;--ink:#1f2328;--muted:#59636e;--line:#d0d7de;--commits:#0a64c8;
---throws:#a40e26;--new:#6e7781;--stale:#8a5a00;--ground:#fff3d1;--finished:#1a7f37;--mark:#fff8c5}
+--throws:#a40e26;--new:#6e7781;--stale:#8a5a00;--ground:#fff3d1;--finished:#1a7f37;--declared:#0b7285;--mark:#fff8c5}
 @media(prefers-color-scheme:dark){:root{color-scheme:dark;--page:#0d1117;--paper:#12171f;--band:#161c25;--ink:#e6edf3;--muted:#9aa4af;
---line:#3d444d;--commits:#58a6ff;--throws:#ff7b72;--new:#8b949e;--stale:#d29922;--ground:#3a2c07;--finished:#3fb950;--mark:#3b2e08}}
+--line:#3d444d;--commits:#58a6ff;--throws:#ff7b72;--new:#8b949e;--stale:#d29922;--ground:#3a2c07;--finished:#3fb950;--declared:#3bc9db;--mark:#3b2e08}}
 *{box-sizing:border-box}
 body{margin:0;background:var(--page);color:var(--ink);font:13px/1.45 system-ui,-apple-system,"Segoe UI",Roboto,"DejaVu Sans",sans-serif}
 header{display:flex;flex-wrap:wrap;gap:4px 18px;align-items:baseline;padding:10px 14px;background:var(--paper);border-bottom:1px solid var(--line)}
@@ -25,7 +25,7 @@ td,th{padding:3px 8px 3px 0;vertical-align:top;overflow-wrap:anywhere;border-top
 .number{width:64px;font-variant-numeric:tabular-nums}.short{width:96px}.middle{width:26%}
 code{font-family:ui-monospace,SFMono-Regular,Menlo,Consolas,"DejaVu Sans Mono",monospace;font-size:12px}
 .badge{display:inline-block;border:1px solid currentColor;border-radius:4px;padding:0 4px;font-size:11px;font-weight:600}
-.new{color:var(--new)}.stale{color:var(--stale);background:var(--ground)}.waits,.declared{color:var(--commits)}.ready,.finished{color:var(--finished)}
+.new{color:var(--new)}.stale{color:var(--stale);background:var(--ground)}.waits{color:var(--commits)}.declared{color:var(--declared)}.ready,.finished{color:var(--finished)}
 .cancelled,.muted{color:var(--muted)}tr.changed td{background:var(--mark)}
 @media(max-width:760px){main{grid-template-columns:minmax(0,1fr)}}
 </style>
