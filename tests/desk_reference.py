@@ -1,11 +1,12 @@
 """A slow desk, whose one limit is how many events its history has room for: the answers of the console's commands, by the rules of
-docs/CONSOLE.md, with an evaluator of its own.
+docs/CONSOLE.md, with an evaluator of its own. It knows no types but those of variables.
 
 It keeps the whole past: of each waiting block the store of its last delivery, and of each stale one the finish that made it so. A checkpoint
 does nothing to it, but that `why` of a block that is stale already and the number of events are as after one.
 """
 
 import math
+import re
 import sys
 from pathlib import Path
 
@@ -13,6 +14,7 @@ sys.dont_write_bytecode = True
 sys.path.insert(0, str(Path(__file__).resolve().parent.parent / "tools"))
 
 import blocks
+import random_scripts
 from histories import shown
 from questions_reference import applied, is_same
 
@@ -24,7 +26,7 @@ class Full(Exception):
 def value_of(text, names):
     """The first value of a declared variable."""
     constants = {"True": True, "False": False, "()": None}
-    return constants[text] if text in constants else names[text] if text in names else int(text)
+    return constants[text] if text in constants else names[text] if text in names else int(text.strip("()"))
 
 
 def verdict_text(verdict):
@@ -62,15 +64,18 @@ class Desk:
     """The desk. `answer` takes a line and returns the lines of its answer."""
 
     def __init__(self, variables, limit=math.inf):
-        self.names, self.cells, self.kinds, self.counts, self.declared = {}, [], [], [], list(variables)
-        for number, (name, (kind, first)) in enumerate(variables.items()):
-            self.cells.append(value_of(first, self.names))
-            self.kinds.append(kind)
-            self.counts.append(0)
-            self.names[name] = ("old", number)
+        self.names, self.cells, self.kinds, self.counts = {}, [], [], []
+        for name, (kind, first) in variables.items():
+            self.declare(name, kind, value_of(first, self.names))
         self.waiters, self.out, self.jobs, self.next, self.events, self.limit = {}, set(), [], 1, 0, limit
 
     # -- what it does
+
+    def declare(self, name, kind, value):
+        self.names[name] = ("old", len(self.cells))
+        self.cells = [*self.cells, value]  # jobs have the list of before
+        self.kinds.append(kind)
+        self.counts.append(0)
 
     def outcome(self, action, cells):
         verdict, reads = blocks.outcome(action, cells)
@@ -153,11 +158,29 @@ class Desk:
             return getattr(self, f"do_{word}")(argument)
         except Full:
             return ["refused HistoryFull"]
+        except blocks.Unknown as unknown:
+            return [f"refused Unknown {[it.start() for it in blocks.TOKEN.finditer(argument)][unknown.args[0]]}"]
+
+    def do_declare(self, text):
+        if text in random_scripts.BROKEN:
+            return [f"refused {random_scripts.BROKEN[text]}"]
+        name, kind, first = re.fullmatch(r"(\w+) : (.+) = (.+)", text).groups()
+        if first[0].islower() and first not in self.names:
+            return [f"refused Unknown {text.index('=') + 2}"]
+        if name in self.names:
+            return ["refused Twice"]
+        value = value_of(first, self.names)
+        if self.kind(value) != kind:
+            return ["refused TypeOfValue"]
+        self.record()
+        self.declare(name, kind, value)
+        return [f"declared #{len(self.cells) - 1} {name}"]
 
     def do_submit(self, text):
+        action = blocks.parsed(text, self.names)
         self.record()
         ticket, self.next = self.next, self.next + 1
-        self.waiters[ticket] = Waiter(blocks.parsed(text, self.names))
+        self.waiters[ticket] = Waiter(action)
         return [f"ticket {ticket}"]
 
     def do_atomically(self, text):
@@ -260,9 +283,9 @@ class Desk:
         return [f"why {ticket} ready" if waiter.can_finish else f"why {ticket} waits {reads_text(waiter.reads)}"]
 
     def do_store(self, _):
-        lines = []
+        lines, names = [], {number: f"{name} " for name, (_, number) in self.names.items()}
         for number, (kind, value, count) in enumerate(zip(self.kinds, self.cells, self.counts)):
-            name = f"{self.declared[number]} " if number < len(self.declared) else ""
+            name = names.get(number, "")
             lines.append(f"#{number} {name}: {kind} = {shown(value)} count {count}")
         return [*lines, f"cells {len(self.cells)}"]
 

@@ -77,6 +77,10 @@ class Reference:
         self.stores.append(self.store)
 
     def act(self, event):
+        if event["event"] == "declared":
+            self.names[event["name"]] = ("old", len(self.store))
+            self.store, self.counts = [*self.store, histories.Replay.value(event["init"], None)], [*self.counts, 0]
+            return
         ticket = event["ticket"]
         if event["event"] == "submitted":
             self.waiters[ticket] = Waiter(event["block"], self.names)
@@ -97,7 +101,7 @@ class Reference:
     def cause(self, ticket, reads):
         """The ticket of the first event since the last delivery to this one after which variables of the reads have other values,
         and these variables with both values."""
-        last = max((at for at, it in enumerate(self.events) if (it["event"], it["ticket"]) == ("installed", ticket)), default=-1)
+        last = max((at for at, it in enumerate(self.events) if (it["event"], it.get("ticket")) == ("installed", ticket)), default=-1)
         for event, store in list(zip(self.events, self.stores))[last + 1:]:
             changes = {it: (value, store[it]) for it, value in reads.items() if not is_same(value, store[it])}
             if changes:

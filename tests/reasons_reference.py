@@ -2,7 +2,7 @@
 """Explains the first line of a history that isn't accepted: a slow reference for `stmdesk check --why`, with an evaluator of its own.
 
 It goes by the definitions: the lines before the first event are read one by one, the events before the line are followed one by one, and the
-block of the line's ticket is run from scratch. As a program it reads a history of format 3 or 4 and prints what `check --why` prints, but
+block of the line's ticket is run from scratch. As a program it reads a history of format 3 to 5 and prints what `check --why` prints, but
 that it says `not accepted N` for both `bad line N` and `not legal N`:
 
     python3 tests/reasons_reference.py < HISTORY
@@ -20,7 +20,7 @@ import blocks
 import histories
 from questions_reference import Reference, is_same, with_values
 
-KEYS = ("submitted", "installed", "finished", "cancelled")
+KEYS = ("declared", "submitted", "installed", "finished", "cancelled")
 NOT_A_BLOCK = (ValueError, LookupError, RecursionError)
 RESERVED = "do let if then else return readTVar writeTVar newTVar retry orElse throw catch True False Int Bool TVar".split()
 MOST_CELLS, MOST_WAITING, MOST_NEXT, MOST_COUNT = 1_000_000, 65_536, 4_293_918_719, 2**64 - 1
@@ -181,6 +181,7 @@ class Reasons(Reference):
     def __init__(self, history):
         super().__init__(history)
         head, *lines = history.splitlines()
+        self.format = json.loads(head)["format"]
         self.types = Types([json.loads(it)["type"] for it in lines[: json.loads(head)["vars"]]])
         for event in self.events:
             self.note(event)
@@ -191,7 +192,9 @@ class Reasons(Reference):
             self.note(self.events[-1])
 
     def note(self, event):
-        """The types of the variables that a finish makes."""
+        """The types of the variables that an event makes."""
+        if event["event"] == "declared":
+            self.types.kinds.append(event["type"])
         if event["event"] == "finished" and "commits" in event["verdict"]:
             self.types.kinds += [it[0] for it in event["verdict"]["commits"]["news"]]
 
@@ -210,9 +213,9 @@ class Reasons(Reference):
         return {"commits": {"news": news, "result": self.value(result), "writes": [[it, self.value(writes[it])] for it in sorted(writes)]}}
 
     def checkpoint(self):
-        """The lines before the first event of a history that begins from here."""
+        """The lines before the first event of a history that begins from here: in format 5 if a name comes after a variable without one."""
         names = {number: name for name, (_, number) in self.names.items()}
-        lines = [{"format": 4, "next": self.next, "vars": len(self.store), "waiting": len(self.waiters)}]
+        lines = [{"format": 4 if all(it < len(names) for it in names) else 5, "next": self.next, "vars": len(self.store), "waiting": len(self.waiters)}]
         for number, value in enumerate(self.store):
             lines.append({"count": self.counts[number], "init": self.value(value), "name": names.get(number), "type": self.types.kinds[number]})
         for ticket, waiter in sorted(self.waiters.items()):
@@ -243,8 +246,11 @@ class Reasons(Reference):
             return "unreadable"
 
     def reason(self, event):
-        kind, client, ticket = event.get("event"), number_of(event.get("client"), 127), number_of(event.get("ticket"))
+        kind, client = event.get("event"), number_of(event.get("client"), 127)
         need(kind in KEYS)
+        if kind == "declared":
+            return self.declared(event, client)
+        ticket = number_of(event.get("ticket"))
         waiter = self.waiters.get(ticket)
         if kind == "submitted":
             block = block_of(event.get("block"), self.names)
@@ -271,8 +277,23 @@ class Reasons(Reference):
         return "expected " + text({**due, "first_new": len(self.store), "stale": self.stale_after(ticket), "verdict": self.verdict(verdict)})
 
 
+    def declared(self, event, client):
+        """The explanation of a declaration."""
+        need("init" in event)
+        due = {"client": client, "event": "declared", "init": value_of(event["init"]), "name": name_of(event.get("name"))}
+        due["type"] = type_of(event.get("type"))
+        need(due["name"] is not None)
+        if due["name"] in self.names:
+            return "refused Twice"
+        has_name = not isinstance(due["init"], dict) or ("old", due["init"].get("old")) in self.names.values()
+        if not has_name or self.types.of(histories.Replay.value(due["init"], None)) != due["type"]:
+            return "refused TypeOfValue"
+        need(self.format == 5)
+        return "expected " + text(due)
+
+
 class Beginning:
-    """The lines before the first event, of a table in format 3 or of a checkpoint. `due` has the line that would be accepted in place of
+    """The lines before the first event, of a table or of a checkpoint. `due` has the line that would be accepted in place of
     one, and `take` takes in a line that is accepted."""
 
     def __init__(self):
@@ -307,25 +328,26 @@ class Beginning:
 
     def header(self, found):
         format, variables = number_of(found.get("format")), number_of(found.get("vars"), MOST_CELLS)
-        if 1 <= format <= 3:
+        if 1 <= format <= 3 or format == 5 and "next" not in found:
             return {"format": format, "vars": variables}
-        need(format == 4)
+        need(format in (4, 5))
         next_ticket, waiting = number_of(found.get("next"), MOST_NEXT), number_of(found.get("waiting"), MOST_WAITING)
         need(next_ticket > 0)
-        return {"format": 4, "next": next_ticket, "vars": variables, "waiting": waiting}
+        return {"format": format, "next": next_ticket, "vars": variables, "waiting": waiting}
 
     def variable(self, found):
         need("init" in found and "name" in found)
         cell = {"init": value_of(found["init"]), "name": name_of(found["name"]), "type": type_of(found.get("type"))}
         need(cell["name"] not in self.names)
-        if self.head["format"] != 4:
+        if "next" not in self.head:
             need(cell["name"] is not None)
             self.types().need(cell["type"], cell["init"])
             return cell
         cell["count"] = number_of(found.get("count"), MOST_COUNT)
         if cell["name"] is not None:
-            need(len(self.names) == len(self.variables))
-            need(not cell["type"].startswith("TVar") or any(to(it["type"]) == cell["type"] for it in self.variables))
+            named = [it for it in self.variables if it["name"] is not None]
+            need(self.head["format"] == 5 or len(named) == len(self.variables))
+            need(not cell["type"].startswith("TVar") or any(to(it["type"]) == cell["type"] for it in named))
         # The values are judged with the last variable, since a reference may name one that comes later.
         if len(self.variables) + 1 == self.head["vars"]:
             for it in [*self.variables, cell]:
