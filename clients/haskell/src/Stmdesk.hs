@@ -27,8 +27,8 @@ module Stmdesk
     -- * Texts
   , render, Limit (..)
     -- * Desks
-  , Desk, Options (..), Sync (..), defaults, withDesk, findProgram, declareVar, declareVars, atomically, atomicallyWithin, tryBlock, looks
-  , submit, eval, finish, atomicallyNow, cancel, ready, standings, readsOf, why, board, store, settle, drain, checkpoint, history
+  , Desk, Options (..), Sync (..), defaults, withDesk, findProgram, declareVar, declareVars, declareNow, atomically, atomicallyWithin
+  , tryBlock, looks, submit, eval, finish, atomicallyNow, cancel, ready, standings, readsOf, why, board, store, settle, drain, checkpoint, history
     -- * Answers
   , Value (..), Ticket, ticketNumber, Verdict (..), Finished (..), Ran (..), Standing (..), Reason (..), Cell (..), Settled (..)
     -- * What is thrown

@@ -253,12 +253,51 @@ desks path =
         replicateM_ 9 (atomically desk (modifyVar x (+ 1)))
       withDesk kept $ \desk -> do
         declareVars desk [declaration x, declaration slot]
-        refused' Refusal.Late (declareVar desk y)
         refused' Refusal.Late (declareVar desk (variable "x" true))
         atomically desk (atLeast 10) >>= (`is` 10)
         atomically desk (readVar slot) >>= (`is` Var xRef)
       Ended status said <- throws (withDesk options {journal = Just folder} eval)
       (status == ExitSuccess, null said) `is` (False, False)
+  , test "variables at any time" $ on $ \desk -> do
+      declareNow desk x >>= (`is` Var xRef)
+      refused' Refusal.Late (declareVar desk y)
+      atomically desk (newVar true) >>= (`is` Var (Ref 1 Nothing))
+      waiting <- submit desk (atLeast 5)
+      _ <- eval desk
+      refused' Refusal.Unknown (tryBlock desk (readVar y))
+      declareNow desk y >>= (`is` Var (Ref 2 (Just "y")))
+      tryBlock desk (readVar y) >>= (`is` Commits [] [] 0)
+      standings desk >>= (`is` [(2, Current Blocks)]) . numbered  -- ticket 1 made the variable
+      declareNow desk slot >>= (`is` Var (Ref 3 (Just "slot")))
+      looks desk (readVar slot >>= readVar) >>= (`is` [(xRef, IntValue 1), (Ref 3 (Just "slot"), RefValue xRef)])
+      refused' Refusal.Twice (declareNow desk y)
+      it <- throws (declareNow desk (variable "z" (variable "gone" true)))
+      (refused it, refusedAt it, refusedLine it) `is` (Refusal.Unknown, Just 16, "declare z : TVar Bool = gone")
+      throws (declareNow desk (variable "z" (9223372036854775808 :: Exp Int))) >>= (`is` NumberOutOfRange 9223372036854775808)
+      _ <- atomicallyNow desk (writeVar x 5)
+      _ <- eval desk
+      finish desk waiting >>= shows' "Finished 5 []"
+      map variableOf <$> store desk >>= (`is` [xRef, Ref 1 Nothing, Ref 2 (Just "y"), Ref 3 (Just "slot")])
+      Bytes.take 11 <$> history desk >>= (`is` Bytes.pack "{\"format\":5")
+  , test "variables at any time, in a full history" $ withDesk options {maxEvents = Just 1} $ \desk -> do
+      _ <- declareNow desk x
+      refused' Refusal.HistoryFull (declareNow desk y)
+      checkpoint desk >>= (`is` 1)
+      declareNow desk y >>= (`is` Var (Ref 1 (Just "y")))
+  , test "a new release on the file of an old one" $ inFolder $ \folder -> do
+      let kept = options {journal = Just (folder </> "kept"), sync = Just None}
+      withDesk kept $ \desk -> declareVars desk [declaration x] >> atomically desk (modifyVar x (+ 1))
+      withDesk kept $ \desk -> do
+        declareVars desk [declaration x, declaration slot]
+        declareVar desk y >>= (`is` Var (Ref 2 (Just "y")))
+        atomically desk (readVar slot >>= readVar >>= writeVar y)
+      withDesk kept $ \desk -> do
+        declareVars desk [declaration x, declaration slot, declaration y]
+        refused' Refusal.Late (declareVar desk (variable "y" true))
+        map valueNow <$> store desk >>= (`is` [IntValue 2, RefValue xRef, IntValue 2])
+      let answers = "case $word in tvar) echo refused Late;; store) echo cells 0;; *) echo refused Command;; esac"
+      old <- standIn folder ["while read word rest; do", answers, "done"]
+      withDesk kept {program = Just old} $ \desk -> refused' Refusal.Late (declareVar desk y)
   , test "a program that ends" $ inFolder $ \folder -> do
       dying <- standIn folder ["read line", "echo ticket 1", "read line", "echo 'out of luck' >&2", "exit 4"]
       withDesk options {program = Just dying} $ \desk -> do

@@ -5,8 +5,8 @@ module Stmdesk.Desk
   ( -- * A desk
     Desk, Options (..), Sync (..), defaults, withDesk, withTransport
     -- * Commands
-  , declareVar, declareVars, tryBlock, looks, submit, eval, finish, atomicallyNow, cancel, standings, ready, readsOf, why, board, store
-  , settle, drain, checkpoint, history
+  , declareVar, declareVars, declareNow, tryBlock, looks, submit, eval, finish, atomicallyNow, cancel, standings, ready, readsOf, why, board
+  , store, settle, drain, checkpoint, history
     -- * Transactions
   , atomically, atomicallyWithin
   ) where
@@ -152,28 +152,51 @@ lineOf word block = either throwIO (pure . (word <>) . Bytes.pack) (render block
 about :: ByteString -> Ticket a -> ByteString
 about word it = word <> Bytes.pack (show (ticketNumber it))
 
--- | Declares a variable. All declarations come before the first other command; later ones are refused as 'Refusal.Late'. On a desk with a
--- journal that has a variable of this name and type already, it returns that one.
+-- | Declares a variable. All declarations come before the first other command; later ones are refused as 'Refusal.Late', and 'declareNow'
+-- takes them. On a desk with a journal that has a variable of this name and type already, it returns that one, and one that the journal
+-- doesn't have it declares as 'declareNow' does: so a new release of a program may have more variables.
 --
 -- >>> withDesk defaults (\desk -> declareVar desk (variable "x" 1))
 -- Var (Ref 0 (Just "x"))
 declareVar :: Desk -> Exp (Var a) -> IO (Var a)
 declareVar desk it = do
   declaring <- either throwIO pure (renderDeclaration it)
-  let name = declaredName declaring
-      isIt cell = isNamed (variableOf cell) && kindOf cell == declaredType declaring
-      isNamed at = case at of { Ref _ (Just other) -> other == name; _ -> False }
-      atNumber them = case them of { ["tvar", at, _] -> Bytes.stripPrefix "#" at >>= decimal; _ -> Nothing }
-  answer <- try (askOne desk ("tvar " <> Bytes.pack (declaringText declaring)) (const atNumber))
-  number <- case answer of
-    Right number -> pure number
-    Left late -> do
-      known <- if refused late == Late && keepsFile desk then store desk else pure []
-      case variableOf <$> find isIt known of
-        Just (Ref number _) -> pure number
-        _ -> throwIO late
-  atomicModifyIORef' (names desk) (\known -> (IntMap.insert number name known, ()))
-  pure (Var (Ref number (Just name)))
+  answer <- try (declaredBy "tvar " "tvar" desk declaring)
+  case answer of
+    Right number -> named desk declaring number
+    Left late
+      | refused late == Late && keepsFile desk -> do
+          known <- find (isNamed declaring . variableOf) <$> store desk
+          case known of
+            Just cell | kindOf cell == declaredType declaring, Ref number _ <- variableOf cell -> named desk declaring number
+            Just _ -> throwIO late
+            Nothing -> (declaredBy "declare " "declared" desk declaring `catch` unlessCommand late) >>= named desk declaring
+      | otherwise -> throwIO late
+  where
+    isNamed declaring at = case at of { Ref _ (Just other) -> other == declaredName declaring; _ -> False }
+    unlessCommand late other = throwIO (if refused other == Refusal.Command then late else other)  -- a program may know no `declare`
+
+-- | Declares a variable at any time: the console's @declare@. It gets the next number of the store, and blocks that wait stay as they are.
+-- A block that was refused as 'Refusal.Unknown' may be accepted afterwards.
+--
+-- >>> withDesk defaults (\desk -> atomically desk (newVar 7) >> declareNow desk (variable "x" 1))
+-- Var (Ref 1 (Just "x"))
+declareNow :: Desk -> Exp (Var a) -> IO (Var a)
+declareNow desk it = do
+  declaring <- either throwIO pure (renderDeclaration it)
+  declaredBy "declare " "declared" desk declaring >>= named desk declaring
+
+-- | Declares a variable by a command, whose answer begins with a word. Returns the variable's number.
+declaredBy :: ByteString -> ByteString -> Desk -> Declaring -> IO Int
+declaredBy command word desk declaring = askOne desk (command <> Bytes.pack (declaringText declaring)) (const number)
+  where
+    number them = case them of { [it, at, _] | it == word -> Bytes.stripPrefix "#" at >>= decimal; _ -> Nothing }
+
+-- | The declared variable of this number, whose name is kept.
+named :: Desk -> Declaring -> Int -> IO (Var a)
+named desk declaring number = do
+  atomicModifyIORef' (names desk) (\known -> (IntMap.insert number (declaredName declaring) known, ()))
+  pure (Var (Ref number (Just (declaredName declaring))))
 
 -- | Declares variables, in this order.
 --
