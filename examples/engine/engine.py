@@ -21,20 +21,22 @@ sys.path.insert(0, str(Path(__file__).resolve().parents[2] / "clients" / "python
 
 from stmdesk import Commits, Desk, Ended, Finish, or_else
 
-FREE, DONE, FAILED, WAITS, RESTS, RUNS = range(6)  # the states of a slot; up to FAILED it is over
+DONE, FAILED, WAITS, RESTS, RUNS = range(1, 6)  # the states of a job; up to FAILED it is over
 NEEDS = 3  # jobs that one job may need
+MOST = 30  # jobs that one block goes through: with so many needs each that is nearly 4,096 tokens, which a block has at most
 
 
 @dataclass
 class Job:
-    """What is to be done: the work of this name in WORK, after the jobs in the slots that it needs. No two jobs have one name."""
+    """What is to be done: the work of this name in WORK, after the jobs that it needs, by their numbers. No two jobs have one name."""
 
     name: str
-    slot: int
+    number: int
     work: str
     arguments: list[object]
     needs: list[int]
     tries: int
+    urgent: bool
 
 
 @dataclass
@@ -58,7 +60,7 @@ class Notes:
     """What variables can't hold: the jobs, their results and errors. With a path they are in this file too, a line each."""
 
     def __init__(self, path: Path | None) -> None:
-        self.jobs: dict[int, Job] = {}  # by slot, as the others
+        self.jobs: dict[int, Job] = {}  # by number, as the others
         self.results: dict[int, object] = {}
         self.errors: dict[int, str] = {}
         self.lock = threading.Lock()
@@ -73,11 +75,11 @@ class Notes:
 
     def take(self, note: dict[str, Any]) -> None:
         if "job" in note:
-            self.jobs[note["slot"]] = Job(**note["job"])
+            self.jobs[note["number"]] = Job(**note["job"])
         elif "error" in note:
-            self.errors[note["slot"]] = note["error"]
+            self.errors[note["number"]] = note["error"]
         else:
-            self.results[note["slot"]] = note["result"]
+            self.results[note["number"]] = note["result"]
 
     def add(self, **note: object) -> None:
         """Returns when the note is in the file, and on the disk."""
@@ -92,71 +94,47 @@ class Notes:
 class Engine:
     """Runs jobs. The desk holds their states, and knows which may begin; the notes hold the rest.
 
-    Variables can't be declared late, so each job takes a slot of a pool: s3 is the state of slot 3, t3 how many tries are left,
-    and a3, b3 and c3 refer to the states of the jobs that it needs.
+    A job's variables are declared when it is added: s3 is the state of job 3, and t3 how many tries are left. `jobs` is how many there are.
     """
 
-    def __init__(
-        self, program: str | None = None, journal: str | None = None, *, permits: int = 2, urgent: int = 4, normal: int = 12
-    ) -> None:
-        """At most `permits` jobs run at a time. `urgent` and `normal` are the numbers of slots for such jobs. If a process before
-        has left a journal, its jobs are there, and go on."""
+    def __init__(self, program: str | None = None, journal: str | None = None, *, permits: int = 2) -> None:
+        """At most `permits` jobs run at a time. If a process before has left a journal, its jobs are there, and go on."""
         self.notes = Notes(None if journal is None else Path(f"{journal}.notes"))
         self.desk = Desk(program, journal=journal)
-        slots = range(1, urgent + normal + 1)
-        self.slots = {True: slots[:urgent], False: slots[urgent:]}
         self.adding = threading.Lock()
-        if self.desk.is_resumed:
-            self.recover(slots)
-        else:
-            self.declare(slots, permits)
+        self.count = 0  # jobs whose variables are declared
+        self.over: set[int] = set()  # jobs that are known to be over
+        self.desk.variable(f"permits : Int = {permits}")
+        self.desk.variable("jobs : Int = 0")
+        for status in self.desk.show():  # the blocks of workers of the process before, with whom nobody goes on
+            self.desk.cancel(status.ticket)
         for job in self.notes.jobs.values():
             self.enlist(job)
-        # The lower slot first, so an urgent job before a normal one; 0 when all are over.
-        self.next = or_else(*map(begin, slots), all_over(slots))
-
-    def declare(self, slots: range, permits: int) -> None:
-        with self.desk.batch() as batch:
-            batch.tvar(f"permits : Int = {permits}")
-            batch.tvar(f"nothing : Int = {DONE}")  # the state of the job that a job needs which needs none
-            for slot in slots:
-                batch.tvar(f"s{slot} : Int = {FREE}")
-                batch.tvar(f"t{slot} : Int = 0")
-                for need in "abc":
-                    batch.tvar(f"{need}{slot} : TVar Int = nothing")
-
-    def recover(self, slots: range) -> None:
-        """Ends what nobody goes on with: the blocks of workers, and the tries and rests of the process before."""
-        for status in self.desk.show():
-            self.desk.cancel(status.ticket)
-        for slot in slots:
-            self.desk.atomically(recovered(slot))
+            self.desk.atomically(recovered(job.number))
 
     def add(
         self, name: str, work: str, *arguments: object, needs: Iterable[Job] = (), urgent: bool = False, tries: int = 3
     ) -> Job:
-        """Adds a job, at any time, before the engine runs or from a job. If there is a job of this name, returns that. Raises
-        RuntimeError if the pool has no slot."""
+        """Adds a job, at any time, before the engine runs or from a job. If there is a job of this name, returns that. Raises ValueError if
+        it needs too many."""
         with self.adding:
             found = next((it for it in self.notes.jobs.values() if it.name == name), None)
             if found:
                 return found
-            slot = next((it for it in self.slots[urgent] if it not in self.notes.jobs), None)
-            needed = [it.slot for it in needs]
-            if slot is None or len(needed) > NEEDS:
-                raise RuntimeError(f"no slot for {name}")
-            job = Job(name, slot, work, list(arguments), needed, tries)
-            self.notes.add(slot=slot, job=asdict(job))
-        self.enlist(job)
+            needed = [it.number for it in needs]
+            if len(needed) > NEEDS:
+                raise ValueError(f"{name} needs {len(needed)} jobs, and {NEEDS} are the most")
+            job = Job(name, self.count + 1, work, list(arguments), needed, tries, urgent)
+            self.notes.add(number=job.number, job=asdict(job))
+            self.enlist(job)
         return job
 
     def enlist(self, job: Job) -> None:
-        """Lets the job wait, if it doesn't yet."""
-        writes = " ".join(f"writeTVar {need}{job.slot} s{slot};" for need, slot in zip("abc", job.needs))
-        self.desk.atomically(f"""do {{
-            s <- readTVar s{job.slot};
-            if s == {FREE} then do {{ {writes} writeTVar t{job.slot} {job.tries}; writeTVar s{job.slot} {WAITS} }} else return ()
-        }}""")
+        """Declares the job's variables, if they aren't there, and lets the workers know of it."""
+        self.desk.variable(f"s{job.number} : Int = {WAITS}")
+        self.desk.variable(f"t{job.number} : Int = {job.tries}")
+        self.count = job.number  # before `jobs` says so: a worker that reads it there finds it here
+        self.desk.atomically(f"do {{ n <- readTVar jobs; if n < {job.number} then writeTVar jobs {job.number} else return () }}")
 
     def run(self, workers: int = 4) -> None:
         """Runs all jobs to their end."""
@@ -168,100 +146,124 @@ class Engine:
 
     def worker(self) -> None:
         with suppress(Ended, ValueError):  # the desk was closed, after Ctrl-C for example; whoever uses it next sees that
-            while slot := self.desk.atomically(self.next):
-                assert isinstance(slot, int)
-                if slot > 0:
-                    self.try_job(self.notes.jobs[slot])
+            while True:
+                count = self.count
+                left = [self.notes.jobs[it] for it in range(1, count + 1) if it not in self.over]
+                number = self.desk.atomically(following(left[:MOST], count))
+                assert isinstance(number, int)
+                if number > 0:
+                    self.try_job(self.notes.jobs[number])
+                elif number < 0:
+                    self.over.add(-number)
+                else:
+                    self.over.update(it.number for it in left[:MOST] if self.is_over(it))
+                    if len(left) <= MOST and count == self.count:
+                        return
+
+    def is_over(self, job: Job) -> bool:
+        state = self.desk.value(f"s{job.number}")
+        return isinstance(state, int) and state <= FAILED
 
     def try_job(self, job: Job) -> None:
         this = Try(self, self.tried(job) + 1, [self.notes.results[it] for it in job.needs])
         try:
             result = WORK[job.work](this, *job.arguments)  # or by a pool of processes
         except Exception as error:
-            self.notes.add(slot=job.slot, error=str(error))
-            if self.desk.atomically(failed(job.slot)):
+            self.notes.add(number=job.number, error=str(error))
+            if self.desk.atomically(failed(job.number)):
                 delay = 0.01 * 2**this.number
-                threading.Timer(delay, self.desk.atomically, [f"writeTVar s{job.slot} {WAITS}"]).start()
+                threading.Timer(delay, self.desk.atomically, [f"writeTVar s{job.number} {WAITS}"]).start()
+            else:
+                self.over.add(job.number)
         else:
-            self.notes.add(slot=job.slot, result=result)  # before another job, which needs the result, can begin
-            self.desk.atomically(done(job.slot))
+            self.notes.add(number=job.number, result=result)  # before another job, which needs the result, can begin
+            self.desk.atomically(done(job.number))
+            self.over.add(job.number)
 
     def tried(self, job: Job) -> int:
         """How many tries of the job have failed."""
-        left = self.desk.value(f"t{job.slot}")
+        left = self.desk.value(f"t{job.number}")
         assert isinstance(left, int)
         return job.tries - left
 
     def outcome(self, job: Job) -> str:
         """What became of a job that is over."""
         tries = self.tried(job)
-        if self.desk.value(f"s{job.slot}") == DONE:
-            return f"done after {tries + 1} tries: {self.notes.results[job.slot]}"
-        return f"failed, {self.notes.errors[job.slot]} after {tries} tries" if tries else "left out after 0 tries"
+        if self.desk.value(f"s{job.number}") == DONE:
+            return f"done after {tries + 1} tries: {self.notes.results[job.number]}"
+        return f"failed, {self.notes.errors[job.number]} after {tries} tries" if tries else "left out after 0 tries"
 
     def runs(self) -> dict[int, list[tuple[int, int]]]:
         """When the tries of each job ran since the desk's last checkpoint: from which event to which."""
-        found: dict[int, list[tuple[int, int]]] = {slot: [] for slot in self.notes.jobs}
+        found: dict[int, list[tuple[int, int]]] = {number: [] for number in self.notes.jobs}
         begun: dict[int, int] = {}
         for event in self.desk.events():
             if isinstance(event, Finish) and isinstance(event.verdict, Commits):
                 for variable, value in event.verdict.writes.items():
-                    slot = int(variable.name[1:]) if variable.name and variable.name[0] == "s" else 0
-                    if slot and value == RUNS:
-                        begun[slot] = event.number
-                    elif slot in begun:
-                        found[slot].append((begun.pop(slot), event.number))
+                    number = int(variable.name[1:]) if variable.name and variable.name[0] == "s" else 0
+                    if number and value == RUNS:
+                        begun[number] = event.number
+                    elif number in begun:
+                        found[number].append((begun.pop(number), event.number))
         return found
 
 
-def begin(slot: int) -> str:
-    """When all that the job needs is done and there is a permit, it runs: returns the slot. When something that it needs has
-    failed, so does the job: returns the slot negated."""
-    reads = " ".join(f"{need} <- readTVar {need}{slot}; is{need} <- readTVar {need};" for need in "abc")
-    is_done = " && ".join(f"(is{need} == {DONE})" for need in "abc")
-    has_failed = " || ".join(f"(is{need} == {FAILED})" for need in "abc")
+def following(jobs: list[Job], count: int) -> str:
+    """What a worker does next, of these jobs: it begins one and returns its number; or it leaves one out, and returns the number negated.
+    Returns 0 if there are more jobs than this, or if all of these are over. Urgent jobs come first, and then the lower numbers."""
+    more = f"do {{ n <- readTVar jobs; if n <= {count} then retry else return 0 }}"
+    return or_else(more, *map(begin, sorted(jobs, key=lambda it: not it.urgent)), all_over(jobs))
+
+
+def begin(job: Job) -> str:
+    """When all that the job needs is done and there is a permit, it runs: returns its number. When something that it needs has failed, so
+    does the job: returns the number negated."""
+    number, reads = job.number, " ".join(f"n{it} <- readTVar s{it};" for it in job.needs)
+    is_done = " && ".join(f"(n{it} == {DONE})" for it in job.needs) or "True"
+    has_failed = " || ".join(f"(n{it} == {FAILED})" for it in job.needs) or "False"
     return f"""do {{
-        s <- readTVar s{slot};
+        s <- readTVar s{number};
         if s == {WAITS} then return () else retry;
         {reads}
-        if {has_failed} then do {{ writeTVar s{slot} {FAILED}; return (-{slot}) }}
+        if {has_failed} then do {{ writeTVar s{number} {FAILED}; return (-{number}) }}
         else if {is_done} then do {{
             p <- readTVar permits;
             if p == 0 then retry else writeTVar permits (p - 1);
-            writeTVar s{slot} {RUNS};
-            return {slot}
+            writeTVar s{number} {RUNS};
+            return {number}
         }} else retry
     }}"""
 
 
-def all_over(slots: range) -> str:
+def all_over(jobs: list[Job]) -> str:
     """When no job waits, rests or runs: returns 0."""
-    reads = " ".join(f"v{slot} <- readTVar s{slot};" for slot in slots)
-    return f"do {{ {reads} if {' && '.join(f'(v{slot} <= {FAILED})' for slot in slots)} then return 0 else retry }}"
+    reads = " ".join(f"v{it.number} <- readTVar s{it.number};" for it in jobs)
+    are_over = " && ".join(f"(v{it.number} <= {FAILED})" for it in jobs) or "True"
+    return f"do {{ {reads} if {are_over} then return 0 else retry }}"
 
 
-def done(slot: int) -> str:
-    return f"do {{ p <- readTVar permits; writeTVar permits (p + 1); writeTVar s{slot} {DONE} }}"
+def done(number: int) -> str:
+    return f"do {{ p <- readTVar permits; writeTVar permits (p + 1); writeTVar s{number} {DONE} }}"
 
 
-def failed(slot: int) -> str:
+def failed(number: int) -> str:
     """Gives the permit back. Returns whether the job is tried again, after a rest."""
     return f"""do {{
         p <- readTVar permits;
         writeTVar permits (p + 1);
-        t <- readTVar t{slot};
-        writeTVar t{slot} (t - 1);
-        if t <= 1 then writeTVar s{slot} {FAILED} else writeTVar s{slot} {RESTS};
+        t <- readTVar t{number};
+        writeTVar t{number} (t - 1);
+        if t <= 1 then writeTVar s{number} {FAILED} else writeTVar s{number} {RESTS};
         return (1 < t)
     }}"""
 
 
-def recovered(slot: int) -> str:
+def recovered(number: int) -> str:
     """A job that ran gives its permit back and waits, and so does one that rested."""
     return f"""do {{
-        s <- readTVar s{slot};
+        s <- readTVar s{number};
         if s == {RUNS} then do {{ p <- readTVar permits; writeTVar permits (p + 1) }} else return ();
-        if {RESTS} <= s then writeTVar s{slot} {WAITS} else return ()
+        if {RESTS} <= s then writeTVar s{number} {WAITS} else return ()
     }}"""
 
 
@@ -328,7 +330,7 @@ def main(program: str | None = None, journal: str | None = None) -> None:
         for job in jobs:
             print(f"{job.name:13} {engine.outcome(job)}")
         runs = engine.runs()
-        in_order = all(runs[need][-1][1] < runs[it.slot][0][0] for it in jobs if runs[it.slot] for need in it.needs)
+        in_order = all(runs[need][-1][1] < runs[it.number][0][0] for it in jobs if runs[it.number] for need in it.needs)
         print(f"Each job began after what it needs: {in_order}.")
         print(f"At most 2 ran at a time: {most_at_a_time([it for tries in runs.values() for it in tries]) <= 2}.")
         waiting, permits = engine.desk.show(), engine.desk.value("permits")
