@@ -2,11 +2,9 @@
 
 from __future__ import annotations
 
-import math
 import os
 import re
 import threading
-import time
 from collections.abc import Iterable, Iterator, Sequence
 from contextlib import suppress
 from copy import copy
@@ -18,8 +16,8 @@ from typing import Any, Literal, TypeVar, get_args
 from ._answers import Answers
 from ._batch import Batch
 from ._commands import (
-    CANCEL, CHECKPOINT, DECLARE, DECLARED, DELIVER, DRAIN, EVAL, EVENTS, FINISH, HANDBACK, HISTORY, LOOKS, READS, READY, SETTLE, SHOW,
-    STORE, SUBMIT, TAKE, TRY, TVAR, WAITING, WHY, Answer, Command, decimal, number_of,
+    ATOMICALLY, CANCEL, CHECKPOINT, DECLARE, DECLARED, DELIVER, DRAIN, EVAL, EVENTS, FINISH, HANDBACK, HISTORY, LOOKS, READS, READY, SETTLE,
+    SHOW, STORE, SUBMIT, TAKE, TRY, TVAR, WAITING, WHY, Answer, Command, decimal, number_of,
 )  # fmt: skip
 from ._errors import BadAnswer, Cancelled, DeskError, OutOfMemory, Refused, Thrown, TimedOut
 from ._local import begin_local
@@ -29,7 +27,6 @@ from ._values import Commits, Events, Finished, FinishedThrows, Job, Reason, Ref
 from ._waits import Wait
 
 PATIENCE = 5.0  # seconds that the program has to end after its input has ended
-SIGNALS = 1.0  # seconds after which the main thread looks for a signal that it has missed
 FEW = 8  # commands that are sent in one go whatever their length
 
 Sync = Literal["full", "append", "none"]
@@ -468,32 +465,33 @@ class Desk:
         >>> results
         [5]
         """
-        self._transport.check_owner()
+        transport = self._transport
+        if getpid() != transport.owner:
+            raise transport.not_owner()
         if self._caller == get_ident():
             raise RuntimeError("a signal handler called the desk in the midst of another call")
-        over = threading.Lock()
-        over.acquire()
-        wait = Wait(block, over.release)
-        waits = None if self._transport.keeps_answers else self._begin_waits()
+        wait = Wait(block)
+        waits: AtomicBlocks | None = None
+        if not transport.keeps_answers:
+            waits = self._begin_waits()
+            wait.hold()
         is_late = False
-        is_main = threading.current_thread() is threading.main_thread()
         try:
             if waits is None:
                 waits = self._try_here(wait)
             else:
-                waits.ask(wait, by_helper=is_main)
-            if not _acquire(over, -1 if timeout is None else min(max(timeout, 0), threading.TIMEOUT_MAX), is_main):
+                waits.ask(wait, by_helper=threading.current_thread() is threading.main_thread())
+            if waits is not None and not wait.acquire(timeout):
                 is_late = True
-                assert waits
                 waits.give_up(wait, withdraw=False)
-                over.acquire()
+                wait.acquire()
         except BaseException:
             if waits is None:
                 self._take_back(wait)
             else:
                 waits.give_up(wait, withdraw=True)
             if not wait.is_over:  # else the lock may be acquired already
-                over.acquire()
+                wait.acquire()
             raise
         if is_late and isinstance(wait.error, Cancelled) and timeout is not None:
             raise TimedOut(timeout)
@@ -503,7 +501,7 @@ class Desk:
         """Runs a block by a call of this thread, which is enough if the transport keeps answers. Ends the wait, or returns what waits for
         it from now on."""
         with self._calls:
-            self._run((wait.run,))
+            self._run_here(wait.run)
             refused = wait.run.error
             if refused is not None:
                 if isinstance(refused, Refused) and refused.name == "HistoryFull" and self._waits:
@@ -513,6 +511,7 @@ class Desk:
             done = wait.run.result()
             if isinstance(done, Waiting):
                 waits = self._begin_waits()
+                wait.hold()
                 waits.adopt(wait, done.ticket)
                 return waits
             if isinstance(done, FinishedThrows):
@@ -520,6 +519,36 @@ class Desk:
             else:
                 wait.end(done.result)
             return None
+
+    def _run_here(self, run: Answer[Finished | FinishedThrows | Waiting]) -> None:
+        """Does what `_run` does, written out as in `_ask`: for a desk of this process on which no block waits yet, that is most of what a
+        call costs."""
+        transport, read = self._transport, self._answers
+        if self._waits is not None or self._under_way or read.first is None or transport.end is not None or self._is_closed:
+            self._run((run,))
+            return
+        said = ""
+        try:
+            self._caller = get_ident()
+            transport.forget()
+            self._under_way = (run,)
+            said = transport.said(run.sent)
+            words = said.split(" ")
+            if words[0] == "refused":
+                run.error = read.refusal(words, ATOMICALLY.word, run.text.lstrip())
+            else:
+                run.value = read.ran(words)
+            self._under_way = ()
+        except OutOfMemory as error:
+            self._lose((run,), error)
+            raise
+        except BaseException as error:
+            why = self._broken(error, run.sent, said)
+            if why is None:
+                raise
+            raise why from None
+        finally:
+            self._caller = 0
 
     def _take_back(self, wait: Wait) -> None:
         """Ends a wait after an exception broke `_try_here` off. Cancels the block if it was run and waits."""
@@ -811,18 +840,6 @@ class Desk:
             transport.kill()
             return BadAnswer(line, said if isinstance(said, str) else "\n".join(said))
         return None
-
-
-def _acquire(lock: threading.Lock, timeout: float, is_main: bool) -> bool:
-    """Acquires the lock in this time; -1 is for ever. The main thread wakes up now and then: Python runs no handler for a signal that comes
-    in the moment in which it begins to sleep on a lock."""
-    if not is_main:
-        return lock.acquire(timeout=timeout)
-    end = time.monotonic() + timeout if timeout >= 0 else math.inf
-    while not lock.acquire(timeout=max(0.0, min(SIGNALS, end - time.monotonic()))):
-        if time.monotonic() >= end:
-            return False
-    return True
 
 
 def _one_text(kind: str) -> str:

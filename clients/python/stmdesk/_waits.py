@@ -2,7 +2,9 @@
 
 from __future__ import annotations
 
+import math
 import threading
+import time
 import weakref
 from collections import deque
 from collections.abc import Callable, Sequence
@@ -17,15 +19,18 @@ from ._helper import Helper
 from ._transport import AtomicBlocks, OwnTransport
 from ._values import Finished, FinishedThrows, Value, Waiting
 
+SIGNALS = 1.0  # seconds after which the main thread looks for a signal that it has missed
+
 
 class Wait:
     """A block that a caller gave to `atomically`, until its outcome is there: a result or an error."""
 
-    __slots__ = ("_tell", "error", "is_over", "is_withdrawn", "result", "run", "ticket")
+    __slots__ = ("_tell", "error", "is_over", "is_withdrawn", "lock", "result", "run", "ticket")
 
-    def __init__(self, block: str, tell: Callable[[], None]) -> None:
+    def __init__(self, block: str, tell: Callable[[], None] | None = None) -> None:
         """`tell` is called once, by another thread, when the outcome is there."""
         self.run = Answer(ATOMICALLY, block)
+        self.lock: threading.Lock | None = None  # released when the outcome is there, if the caller may have to sleep until then
         self.ticket: int | None = None
         self.is_withdrawn = False  # then the block isn't run any more
         self.result: Value = None
@@ -33,9 +38,30 @@ class Wait:
         self.is_over = False
         self._tell = tell
 
+    def hold(self) -> None:
+        """Makes the lock, before another thread has the wait."""
+        lock = threading.Lock()
+        lock.acquire()
+        self.lock, self._tell = lock, lock.release
+
+    def acquire(self, within: float | None = None) -> bool:
+        """Acquires the lock, if there is one, within a time if one is given. The main thread wakes up now and then: Python runs no handler
+        for a signal that comes in the moment in which it begins to sleep on a lock."""
+        if self.lock is None:
+            return True
+        timeout = -1 if within is None else min(max(within, 0), threading.TIMEOUT_MAX)
+        if threading.current_thread() is not threading.main_thread():
+            return self.lock.acquire(timeout=timeout)
+        end = time.monotonic() + timeout if timeout >= 0 else math.inf
+        while not self.lock.acquire(timeout=max(0.0, min(SIGNALS, end - time.monotonic()))):
+            if time.monotonic() >= end:
+                return False
+        return True
+
     def end(self, result: Value = None, error: Exception | None = None) -> None:
         self.result, self.error, self.is_over = result, error, True
-        self._tell()
+        if self._tell is not None:
+            self._tell()
 
     def outcome(self) -> Value:
         if self.error is not None:

@@ -6,7 +6,7 @@ import threading
 import time
 from unittest import mock
 
-from stmdesk import Blocks, Current, Desk, Ended, Refused, _desk
+from stmdesk import Blocks, Current, Desk, Ended, Refused, TimedOut, _waits
 from tests.common import INCREMENT, InThreads, Interruption, OnProgram, needs_process, waits_for
 
 
@@ -173,8 +173,9 @@ class Interrupted(InThreads):
         lock = threading.Lock
         signal.signal(signal.SIGUSR1, interrupt)
         desk = self.start()
-        desk.atomically("return 1")  # so that its thread has locks of the usual kind
-        with mock.patch.object(_desk, "SIGNALS", 0.01), mock.patch.object(_desk.threading, "Lock", Missing):
+        with self.assertRaises(TimedOut):
+            desk.atomically("retry", timeout=0)  # so that its thread has locks of the usual kind
+        with mock.patch.object(_waits, "SIGNALS", 0.01), mock.patch.object(_waits.threading, "Lock", Missing):
             with self.assertRaises(KeyboardInterrupt):
                 desk.atomically("retry")
         self.assert_is(desk.show(), [])
