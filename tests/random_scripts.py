@@ -55,7 +55,7 @@ def declaration(chance, names):
         "i": [str(chance.randrange(4)), "(-7)"], "b": ["True", "False"], "u": ["()"], "r": ["x", "y", *late(names, "i"), some],
         "d": ["slot", *late(names, "r"), some],
     }  # fmt: skip
-    name = chance.choice(list(names)) if chance.random() < 0.05 else f"{letter}{chance.randrange(chance.choice([4, 40]))}"
+    name = chance.choice(list(names)) if chance.random() < 0.05 else f"{letter}{chance.randrange(chance.choice([4, 20]))}"
     kind = chance.choice(list(LATE.values())) if chance.random() < 0.1 else LATE[letter]
     return f"{name} : {kind} = {chance.choice(first[letter])}"
 
