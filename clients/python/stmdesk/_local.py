@@ -156,6 +156,26 @@ class Local(OwnTransport):
             if self.end:
                 self._release()
 
+    def said(self, text: bytes) -> str:
+        """What `send` and `line` do, in one."""
+        try:
+            with self._using:
+                if self.end:
+                    raise Closed
+                self._length = len(text)
+                fed = self._fed
+                self._feed(self._at, text, self._length, self._out_at, ROOM, self._fed_at)
+                if fed.waiting or not fed.given:
+                    self._take()
+                    return self.line()
+                line, _, more = self._out[: fed.given].decode("ascii", "replace").partition("\n")
+                if more:
+                    raise Odd(f"{line}\n{more}")
+                return line
+        finally:
+            if self.end:
+                self._release()
+
     def again(self) -> bool:
         try:
             with self._using:

@@ -94,6 +94,11 @@ class Transport(Owned, ABC):
     def line(self) -> str:
         """The next line that is answered, without its line feed. Raises `Closed` if none comes."""
 
+    def said(self, text: bytes) -> str:
+        """Gives a line, and returns the one line that answers it."""
+        self.send(text)
+        return self.line()
+
     def forget(self) -> None:
         """Before a `send`, if it `keeps_answers`: `again` is false from now on."""
 
