@@ -49,7 +49,8 @@ leaves_batch Never zeros begun start history events text batch c is longer parts
 pub nothing_dropped : (c : List ℕ) → IsWhole c → dropped_count c ≤ most_batch
 nothing_dropped c is = omega (arith, is)
 
-left_alone : (s : SyncMode) (zeros begun : Bool) (start : Start) (history events : List Event) (c : List ℕ) → IsWhole c → c ≡ file_text begun start history
+-- a file that has just this text
+pub left_alone : (s : SyncMode) (zeros begun : Bool) (start : Start) (history events : List Event) (c : List ℕ) → IsWhole c → c ≡ file_text begun start history
     → LeavesHistory s zeros begun start history events c
 left_alone Full zeros begun start history events c is text = record { lines = inl (recovered_whole c is ∙ text); dropped = nothing_dropped c is }
 left_alone Append zeros false start history events c is text = record { lines = inl (recovered_whole c is ∙ text); dropped = nothing_dropped c is }

@@ -1,13 +1,24 @@
 -- A file that was repaired has what was loaded of it.
-use Rattle.std.proofs.Common.{◌≡◌, ℕ, List, Bool, Option, Some, None, is_some, IfSome, [], refl, sym, ap, subst, ◌∙◌}
+use Rattle.std.proofs.Common.{◌≡◌, ◌⊎◌, inl, inr, ⊎_elim, ℕ, List, Bool, true, false, Option, Some, None, is_some, IfSome, [], ◌∷◌, refl, sym, ap, subst, ◌∙◌}
+use Rattle.std.specs.Prelude.{◌||◌, if◌then◌else◌}
 use Rattle.std.proofs.lemmas.List.{append-nil}
+use Rattle.stm_store.specs.Naming.{is_gapless}
+use Rattle.stm_store.specs.Tables.{Declared}
 use Rattle.stm_events.specs.declared.event.Event.{Event}
+use Rattle.stm_events.specs.declared.event.What.{What}
+use Rattle.stm_events.specs.declared.event.What.TheVariants as what
+use Rattle.stm_events.specs.SlowDesk.{Slow, after}
+use Rattle.stm_machine.specs.Checkpoints.{CheckpointView}
+use Rattle.stm_event_lines.specs.CheckpointLines.{checkpoint_format}
+use Rattle.stm_event_lines.specs.Fits.{WhatFitsFormat}
+use Rattle.stm_event_lines.specs.Lines.{declaring_format, latest_format}
+use Rattle.stm_history.specs.Judgement.{AreEvents}
 use Rattle.stm_history.specs.Loading.{HasText, loaded_start}
-use Rattle.stm_history.specs.Starts.{Start}
+use Rattle.stm_history.specs.Starts.{IsLatest, Start, declares, format_for, format_of_start, is_declaration}
 use Rattle.stm_history.specs.declared.files.loading.Loaded.{Loaded}
 use Rattle.stm_journal.specs.Disk.{Disk}
 use Rattle.stm_journal.specs.Journal.{AtRest}
-use Rattle.stm_durable.specs.Durable.{LoadedKept, HistoryKept, LoadsFront, file_text}
+use Rattle.stm_durable.specs.Durable.{LoadedKept, HistoryKept, LoadsFront, file_text, IsFormatFor, IsFormatOf}
 use Rattle.stm_durable.specs.declared.recording.HistoryFile.{HistoryFile}
 
 pub has_loaded : {D : Type 0} (disk : Disk D) (new : HistoryFile D) (front : List ℕ) (loaded : Option Loaded) → new.begun ≡ is_some loaded → ((h : Loaded) → loaded ≡ Some h → new.format ≡ h.format) → LoadsFront front loaded
@@ -38,6 +49,48 @@ some_history disk f None h =
     (start, [], h.1 start)
 some_history disk f (Some l) h = (loaded_start l, l.events.items, h.1)
 
+-- a history in the format of the file
+pub in_its_format : {D : Type 0} (disk : Disk D) (f : HistoryFile D) (format : ℕ) (table : List Declared) (o : Option CheckpointView) (history : List Event) → f.format ≡ format
+    → HistoryKept disk f (record { format = format; table = table; checkpoint = o }) history → HistoryKept disk f (record { format = f.format; table = table; checkpoint = o }) history
+in_its_format disk f format table o history is k = subst (λ (n : ℕ). HistoryKept disk f (record { format = n; table = table; checkpoint = o }) history) (sym is) k
+
 -- what was loaded has a text
 pub text_of : (loaded : Option Loaded) (h : Loaded) → loaded ≡ Some h → IfSome loaded (λ h. HasText (loaded_start h) h.events.items) → HasText (loaded_start h) h.events.items
 text_of loaded h some text = subst (λ (o : Option Loaded). IfSome o (λ h. HasText (loaded_start h) h.events.items)) some text
+
+-- ---- formats
+-- what may stand in another format than that of late declarations declares no variable
+other_what : (format : ℕ) (w : What) → (format ≡ declaring_format → ⊥) → WhatFitsFormat format w → is_declaration w ≡ false
+other_what format (what.Submitted t block) other fit = refl
+other_what format (what.Installed t v) other fit = refl
+other_what format (what.Finished t v n stale) other fit = refl
+other_what format (what.Cancelled t) other fit = refl
+other_what format (what.Declared name kind value) other fit = absurd (other fit)
+
+none_declares : (format : ℕ) (s : Slow) (es : List Event) → (format ≡ declaring_format → ⊥) → AreEvents format s es → declares es ≡ false
+none_declares format s [] other are = refl
+none_declares format s (e ∷ es) other are =
+    ap (λ (b : Bool). b || declares es) (other_what format e.what other are.1) ∙ none_declares format (after s e.what) es other are.3
+
+undeclared : (checkpoint : Option CheckpointView) (es : List Event) → declares es ≡ false → format_for checkpoint es ≡ format_of_start checkpoint
+undeclared checkpoint es other = ap (λ (b : Bool). if b then declaring_format else format_of_start checkpoint) other
+
+checkpoint_start_is : (c : CheckpointView) → is_gapless c.names ≡ true → format_of_start (Some c) ≡ checkpoint_format
+checkpoint_start_is c is = ap (λ (b : Bool). if b then checkpoint_format else declaring_format) is
+
+-- a history that was loaded is in one of its formats
+pub loaded_format_is : (format : ℕ) (table : List Declared) (checkpoint : Option CheckpointView) (es : List Event) → IsLatest format checkpoint
+    → HasText (record { format = format; table = table; checkpoint = checkpoint }) es → IsFormatFor format checkpoint es
+loaded_format_is format table None es (inr is) text = inr is
+loaded_format_is format table None es (inl is) text =
+    inl (is ∙ sym (undeclared None es (none_declares format _ es (λ e. cc (e, is)) text.1.events)))
+loaded_format_is format table (Some c) es latest text = ⊎_elim
+    (λ four. inl (four ∙ sym (undeclared (Some c) es (none_declares format _ es (λ e. cc (e, four)) text.1.events)
+    ∙ checkpoint_start_is c (text.1.start.1.gapless four))))
+    inr text.1.start.1.is_format
+
+-- so the format of the file is one for what was loaded
+pub format_of_loaded : (format : ℕ) (loaded : Option Loaded) → (loaded ≡ None → format ≡ latest_format) → ((h : Loaded) → loaded ≡ Some h → format ≡ h.format)
+    → IfSome loaded (λ h. IsFormatFor h.format h.checkpoint h.events.items) → IsFormatOf format loaded
+format_of_loaded format None none some is = inl (none refl)
+format_of_loaded format (Some h) none some is = (some h refl, is)

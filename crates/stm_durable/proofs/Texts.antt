@@ -158,6 +158,9 @@ fits_again start events text =
     let before = fits_before start.format start.table start.checkpoint is.start in
     record { format_fits = before.0; start_fits = before.1; fit = events_fit start.format (first_state start) events is.events }
 
+pub fits_none : (start : Start) (s : Slow) (events : List Event) → FitLines start s events → FitLines start s []
+fits_none start s events fit = record { format_fits = fit.format_fits; start_fits = fit.start_fits; fit = tt }
+
 -- ---- how a history begins: with `{"format":`
 abbrev pub BeginsHistory : List ℕ → Type 0
 BeginsHistory text = (more : List ℕ) × (text ≡ 123 ∷ 34 ∷ 102 ∷ 111 ∷ 114 ∷ 109 ∷ 97 ∷ 116 ∷ 34 ∷ 58 ∷ more)

@@ -7,10 +7,11 @@ use Rattle.stm_events.specs.SlowDesk.{Slow, after}
 use Rattle.stm_events.specs.States.{IsLegalFrom}
 use Rattle.stm_machine.specs.Checkpoints.{CheckpointView}
 use Rattle.stm_event_lines.specs.Fits.{FitsNames, FitsFormat}
+use Rattle.stm_event_lines.specs.Lines.{declaring_format}
 use Rattle.stm_history.specs.HistoryText.{event_lines, history_text, start_text}
 use Rattle.stm_history.specs.Judgement.{AreEvents, AreShortLines, FormatFits, StartFits}
 use Rattle.stm_history.specs.Loading.{IsWholeHistory, ReportsLoadFault, loaded_start}
-use Rattle.stm_history.specs.Starts.{Start, first_state, read_back, state_after_start}
+use Rattle.stm_history.specs.Starts.{Start, first_state, format_for, read_back, state_after_start}
 use Rattle.stm_history.specs.declared.files.loading.Loaded.{Loaded}
 use Rattle.stm_journal.specs.declared.sync_mode.SyncMode.{SyncMode}
 use Rattle.stm_journal.specs.declared.sync_mode.SyncMode.TheVariants.{Full, Append, Never}
@@ -28,6 +29,11 @@ use Rattle.stm_durable.specs.declared.resuming.OpenFault.TheVariants.{Journal, H
 -- where a history in the format begins with this table and, if it does, from a checkpoint that is lent
 abbrev pub lent_start : ℕ → List Declared → Option (Bor CheckpointView) → Start
 lent_start format table checkpoint = record { format = format; table = table; checkpoint = option_copied checkpoint }
+
+-- The format is the one in which a history is written that begins so and has these events, or that of late declarations, in which each
+-- history can be written.
+abbrev pub IsFormatFor : ℕ → Option CheckpointView → List Event → Type 0
+IsFormatFor format checkpoint history = (format ≡ format_for checkpoint history) ⊎ (format ≡ declaring_format)
 
 -- what the file has
 abbrev pub file_text : Bool → Start → List Event → List ℕ
@@ -208,6 +214,11 @@ BeginsUnless disk start events result =
     }) result
 
 -- ---- opening
+
+-- it is the format of what was loaded, which is one for it; if nothing was, one for a history that has no checkpoint and no event yet
+abbrev pub IsFormatOf : ℕ → Option Loaded → Type 0
+IsFormatOf format None = IsFormatFor format None []
+IsFormatOf format (Some h) = (format ≡ h.format) × IsFormatFor h.format h.checkpoint h.events.items
 
 -- the file has what was loaded of it, or nothing yet
 abbrev pub LoadedKept : {D : Type 0} → Disk D → HistoryFile D → Option Loaded → Type 0

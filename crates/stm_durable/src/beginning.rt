@@ -154,11 +154,13 @@ impl<D: Replace + Drop> HistoryFile<D> {
         self.format = format;
         match self.record(alloc, table, checkpoint, &[]) {
             Ok(()) => Ok(()),
-            Err(JournalError::TooLong) => match self.begin_anew(alloc, format, table, checkpoint, &[]) {
-                Ok(()) => Ok(()),
-                Err(ReplaceError::Refused(error)) => Err(error),
-                Err(ReplaceError::Unfinished(error)) => Err(error),
-            },
+            Err(JournalError::TooLong) => {
+                match self.begin_anew(alloc, format, table, checkpoint, &[]) {
+                    Ok(()) => Ok(()),
+                    Err(ReplaceError::Refused(error)) => Err(error),
+                    Err(ReplaceError::Unfinished(error)) => Err(error),
+                }
+            }
             Err(error) => Err(error),
         }
     }
@@ -167,6 +169,7 @@ impl<D: Replace + Drop> HistoryFile<D> {
     pub fn report(&mut self, error: JournalError)
         ensures same { IsTrue D.disk.is_honest → self.new ≡ self.old }
         ensures sync { self.new.journal.sync ≡ self.old.journal.sync }
+        ensures format { self.new.format ≡ self.old.format }
     {
         self.journal.report(error)
     }

@@ -249,7 +249,7 @@ mod tests {
             Some(loaded) => {
                 assert!(rt; loaded.checkpoint.is_some());
                 assert_eq!(rt; loaded.events.len(), 0usize);
-                assert_eq!(rt; loaded.table.len(), 1usize);
+                assert_eq!(rt; loaded.table.len(), 0usize);
             }
             None => panic!(rt; "nothing was loaded"),
         }

@@ -1,6 +1,7 @@
 //! A file of a history, opened again.
 
-ghost use Rattle.std.specs.Prelude.{◌≡◌, ◌⊎◌, ◌≤◌, ◌<◌, ◌+◌, ◌^◌, Some, IsTrue, IfOk, IfErr, IfSome, MatchResult, length, take, drop};
+ghost use Rattle.std.specs.Prelude.{◌≡◌, ◌⊎◌, ◌≤◌, ◌<◌, ◌+◌, ◌^◌, None, Some, IsTrue, IfOk, IfErr, IfSome, MatchResult, length, take, drop};
+ghost use Rattle.stm_event_lines.specs.Lines.{latest_format};
 ghost use Rattle.stm_events.specs.Laws.{SubmittedAreWellTyped};
 ghost use Rattle.stm_events.specs.SlowDesk.{state_from};
 ghost use Rattle.stm_events.specs.States.{IsLegalFrom};
@@ -12,7 +13,7 @@ ghost use Rattle.stm_journal.specs.Journal.{HasFound, LeavesSameLines, ShowsSame
 ghost use Rattle.stm_journal.specs.Text.{recovered, dropped_count};
 ghost use Rattle.stm_machine.specs.Checkpoints.{MayStart, start_of};
 ghost use Rattle.stm_machine.specs.Machine.{IsAt};
-ghost use Rattle.stm_durable.specs.Durable.{HasLoaded, LoadsFront, ReportsOpenFault, IsOfFile, IsForeign, MayNotOpen, JudgesUnless, RepairsUnless, LoadsUnless};
+ghost use Rattle.stm_durable.specs.Durable.{HasLoaded, LoadsFront, IsFormatFor, IsFormatOf, ReportsOpenFault, IsOfFile, IsForeign, MayNotOpen, JudgesUnless, RepairsUnless, LoadsUnless};
 
 use crate::recording::{HISTORY_FRONT, HistoryFile};
 use std::alloc::Global;
@@ -56,6 +57,7 @@ fn load_front<D: Device>(
     ensures lines { IfOk result (λ o. IfSome o (λ h. HasText (loaded_start h) h.events.items)) }
     ensures typed { IfOk result (λ o. IfSome o (λ h. SubmittedAreWellTyped h.events.items)) }
     ensures blocks { IfOk result (λ o. IfSome o (λ h. IfSome h.checkpoint BlocksAreOfText)) }
+    ensures format { IfOk result (λ o. IfSome o (λ h. IsFormatFor h.format h.checkpoint h.events.items)) }
     ensures text { IsTrue D.disk.is_honest → IfOk result (LoadsFront (take len (D.disk.seen device.now))) }
     ensures fault { IsTrue D.disk.is_honest → IfErr result (λ e. ReportsLoadFault e (take len (D.disk.seen device.now))) }
 {
@@ -127,6 +129,7 @@ fn judge<D: Device>(
     ensures lines { IfOk result (λ r. IfSome r.1 (λ h. HasText (loaded_start h) h.events.items)) }
     ensures typed { IfOk result (λ r. IfSome r.1 (λ h. SubmittedAreWellTyped h.events.items)) }
     ensures blocks { IfOk result (λ r. IfSome r.1 (λ h. IfSome h.checkpoint BlocksAreOfText)) }
+    ensures format { IfOk result (λ r. IfSome r.1 (λ h. IsFormatFor h.format h.checkpoint h.events.items)) }
     ensures text { IsTrue D.disk.is_honest → IfOk result (λ r. LoadsFront (recovered (D.disk.seen device.now)) r.1) }
     ensures own { IsTrue D.disk.is_honest → IfOk result (λ _. IsForeign (D.disk.seen device.now) → ⊥) }
     ensures reported { IsTrue D.disk.is_honest → IfErr result (λ e. ReportsOpenFault e (D.disk.seen device.now)) }
@@ -149,7 +152,8 @@ fn judge<D: Device>(
 
 /// The format of a file of which this was loaded: of one without a history the latest.
 fn format_of(loaded: &Option<Loaded>) -> u32
-    ensures { (h : AnyLoaded) → loaded.now ≡ Some h → result ≡ h.format }
+    ensures none { loaded.now ≡ None → result ≡ latest_format }
+    ensures some { (h : AnyLoaded) → loaded.now ≡ Some h → result ≡ h.format }
 {
     match loaded {
         Some(loaded) => loaded.format,
@@ -166,9 +170,11 @@ fn repaired<D: Device>(
 ) -> Result<Opened<D>, (D, OpenFault)>
     requires found { HasFound D.disk device found }
     requires text { IsTrue D.disk.is_honest → LoadsFront (recovered (D.disk.seen device)) loaded }
+    requires format { IfSome loaded (λ h. IsFormatFor h.format h.checkpoint h.events.items) }
     ensures loaded { IfOk result (λ r. r.loaded ≡ loaded) }
     ensures found { IfOk result (λ r. r.found ≡ found) }
     ensures sync { IfOk result (λ r. r.file.journal.sync ≡ sync) }
+    ensures format { IfOk result (λ r. IsFormatOf r.file.format r.loaded) }
     ensures reported { IfErr result (λ e. ReportsOpenFault e.1 (D.disk.seen device)) }
     ensures repair { IfErr result (λ e. IsOfFile e.1 → ⊥) }
     ensures kept { IfOk result (λ r. IsSettled D.disk device → HasLoaded D.disk r.file loaded) }
@@ -230,6 +236,7 @@ pub fn open_history<D: Device>(
     ensures loaded { IsTrue D.disk.is_honest → IfOk result (λ r. LoadsFront (recovered (D.disk.seen device)) r.loaded) }
     ensures kept { IfOk result (λ r. IsSettled D.disk device → HasLoaded D.disk r.file r.loaded) }
     ensures sync { IfOk result (λ r. r.file.journal.sync ≡ sync) }
+    ensures format { IfOk result (λ r. IsFormatOf r.file.format r.loaded) }
     ensures dropped { IsTrue D.disk.is_honest → IfOk result (λ r. r.found.dropped ≡ dropped_count (D.disk.seen device)) }
     // Otherwise the first error is reported. Another file is never opened, and what was judged is left as it was.
     ensures reported { IsTrue D.disk.is_honest → IfErr result (λ e. ReportsOpenFault e.1 (D.disk.seen device)) }
