@@ -1,9 +1,9 @@
 -- Batches of events, one after another.
 use Rattle.std.proofs.Common.{◌≡◌, inl, inr, ℕ, Result, Ok, Err, OnOk, List, [], ◌∷◌, ◌++◌, Bool, true, sym, ap, ◌∙◌, subst, append_assoc, append-nil}
 use Rattle.std.specs.Prelude.{◌⊎◌}
-use Rattle.stm_store.specs.Tables.{Declared}
-use Rattle.stm_history.specs.Starts.{Start}
 use Rattle.stm_events.specs.declared.event.Event.{Event}
+use Rattle.stm_events.specs.SlowDesk.{Slow, after, state_from}
+use Rattle.stm_history.specs.Starts.{Start}
 use Rattle.stm_journal.specs.declared.sync_mode.SyncMode.{SyncMode}
 use Rattle.stm_journal.specs.Disk.{Disk, LeavesOnly}
 use Rattle.stm_journal.proofs.Moments.{joined, weaker}
@@ -13,22 +13,30 @@ use Rattle.stm_durable.proofs.Crashes.{stays}
 use Rattle.stm_durable_run.specs.Committing.{LeavesBatches}
 
 -- ---- the events of a part can be in lines
-front_fits : (table : List Declared) (xs ys : List Event) → AreFit table (xs ++ ys) → AreFit table xs
-front_fits table [] ys f = tt
-front_fits table (x ∷ xs) ys f = (f.0, front_fits table xs ys f.1)
+front_fits : (format : ℕ) (s : Slow) (xs ys : List Event) → AreFit format s (xs ++ ys) → AreFit format s xs
+front_fits format s [] ys f = tt
+front_fits format s (x ∷ xs) ys f = (f.0, f.1, front_fits format (after s x.what) xs ys f.2)
 
-back_fits : (table : List Declared) (xs ys : List Event) → AreFit table (xs ++ ys) → AreFit table ys
-back_fits table [] ys f = f
-back_fits table (x ∷ xs) ys f = back_fits table xs ys f.1
+back_fits : (format : ℕ) (s : Slow) (xs ys : List Event) → AreFit format s (xs ++ ys) → AreFit format (state_from s xs) ys
+back_fits format s [] ys f = f
+back_fits format s (x ∷ xs) ys f = back_fits format (after s x.what) xs ys f.2
 
-pub fit_front : (start : Start) (es xs ys : List Event) → es ≡ xs ++ ys → FitLines start es → FitLines start xs
-fit_front start es xs ys e f = record { start_fits = f.start_fits; fit = front_fits start.table xs ys (subst (AreFit start.table) e f.fit) }
+pub fit_front : (start : Start) (s : Slow) (es xs ys : List Event) → es ≡ xs ++ ys → FitLines start s es → FitLines start s xs
+fit_front start s es xs ys e f = record {
+  format_fits = f.format_fits;
+  start_fits = f.start_fits;
+  fit = front_fits start.format s xs ys (subst (AreFit start.format s) e f.fit);
+}
 
-pub fit_back : (start : Start) (es xs ys : List Event) → es ≡ xs ++ ys → FitLines start es → FitLines start ys
-fit_back start es xs ys e f = record { start_fits = f.start_fits; fit = back_fits start.table xs ys (subst (AreFit start.table) e f.fit) }
+pub fit_back : (start : Start) (s : Slow) (es xs ys : List Event) → es ≡ xs ++ ys → FitLines start s es → FitLines start (state_from s xs) ys
+fit_back start s es xs ys e f = record {
+  format_fits = f.format_fits;
+  start_fits = f.start_fits;
+  fit = back_fits start.format s xs ys (subst (AreFit start.format s) e f.fit);
+}
 
-pub fit_none : (start : Start) (es : List Event) → FitLines start es → FitLines start []
-fit_none start es f = record { start_fits = f.start_fits; fit = tt }
+pub fit_none : (start : Start) (es : List Event) → (s : Slow) × FitLines start s es → (s : Slow) × FitLines start s []
+fit_none start es f = (f.0, record { format_fits = f.1.format_fits; start_fits = f.1.start_fits; fit = tt })
 
 -- ---- what a crash leaves
 module _ (sync : SyncMode) (zeros : Bool) (start : Start) (history : List Event) where

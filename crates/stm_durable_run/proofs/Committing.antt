@@ -318,9 +318,9 @@ unstreamed f old mid new held text kept not w p h =
     (not, held ++ p.0, (p.1.0, ap (λ (t : List ℕ). held ++ t) p.1.1 ∙ sym (append_assoc held p.0 p.1.0)), Appends-trans old mid new held p.0 w p.2, h)
 
 -- ---- by the result
-pub on_done : {A B C X G : Type 0} (hon : Type 0) (r : Result Unit X) → OnOk r A → OnOk r B → OnOk r C → OnOk r (hon → G) → (H : Type 0) → (A → B → C → (hon → G) → H) → OnOk r H
-on_done hon (Ok x) a b c k H f = f a b c k
-on_done hon (Err x) a b c k H f = tt
+pub on_done : {A B C X G : Type 0} (r : Result Unit X) → OnOk r A → OnOk r B → OnOk r C → OnOk r G → (H : Type 0) → (A → B → C → G → H) → OnOk r H
+on_done (Ok x) a b c k H f = f a b c k
+on_done (Err x) a b c k H f = tt
 
 pub on_ok : {T E A B : Type 0} (r : Result T E) → OnOk r A → (A → B) → OnOk r B
 on_ok (Ok x) h f = f h

@@ -1,30 +1,27 @@
 -- What a run has written and left when it ends.
-use Rattle.std.proofs.Common.{◌≡◌, ℕ, ◌≤◌, length, ◌∷◌, Result, Ok, Err, IfErr, OnOk, OnErr, List, [], ◌++◌, Bool, true, false, cond, IsTrue, Option, Some, None, IfSome, refl, sym, ap, ◌∙◌, subst, arith, append_assoc, append-nil, length-append}
+use Rattle.std.proofs.Common.{◌≡◌, inl, inr, ℕ, ◌≤◌, length, ◌∷◌, Result, Ok, Err, IfErr, OnOk, OnErr, List, [], ◌++◌, Bool, true, false, cond, IsTrue, Option, Some, None, IfSome, refl, sym, ap, ◌∙◌, subst, arith, append_assoc, append-nil, length-append}
 use Rattle.std.specs.Io.KnownBytes.{Appends}
 use Rattle.std.proofs.KnownBytes.{Appends-nil}
 use Rattle.stm_terms.specs.Texts.{IsPrefixOf}
 use Rattle.stm_history.specs.Loading.{HasText, loaded_start}
-use Rattle.stm_history.specs.Judgement.{IsStart, AreEvents, AreVariablesFrom}
-use Rattle.stm_history.specs.Starts.{written_start}
-use Rattle.stm_machine.specs.Checkpoints.{CheckpointView}
+use Rattle.stm_history.specs.Judgement.{AreEvents, FitsBefore, IsBefore}
+use Rattle.stm_history.specs.Starts.{declares, first_state, format_of_start}
+use Rattle.stm_machine.specs.Checkpoints.{CheckpointView, start_of, started_by}
 use Rattle.stm_history.specs.declared.files.loading.Loaded.{Loaded}
 use Rattle.stm_journal.specs.declared.sync_mode.SyncMode.{SyncMode}
 use Rattle.stm_journal.specs.Disk.{Disk, LeavesOnly}
 use Rattle.stm_journal.proofs.Moments.{weaker}
-use Rattle.stm_durable.specs.Durable.{LoadedKept}
+use Rattle.stm_durable.specs.Durable.{HasLoaded, HistoryKept, IsFormatFor, IsFormatOf, LoadedKept}
 use Rattle.stm_durable.specs.declared.recording.HistoryFile.{HistoryFile}
-use Rattle.stm_event_lines.specs.Fits.{WhatFitsTable}
+use Rattle.stm_event_lines.specs.Fits.{WhatFitsNames}
+use Rattle.stm_event_lines.specs.Lines.{declaring_format, rule_of}
 use Rattle.stm_events.specs.declared.event.Event.{Event}
 use Rattle.stm_events.specs.declared.event.What.{What}
 use Rattle.stm_events.specs.declared.event.What.TheVariants as what
-use Rattle.stm_events.specs.SlowDesk.{max_cells}
-use Rattle.stm_history.specs.Judgement.{StartFits}
-use Rattle.stm_store.specs.Cells.{most_cells}
-use Rattle.stm_store.specs.declared.table.DeclareError.TheVariants as declare
-use Rattle.stm_store.specs.Tables.{Declared, declared_cells, may_hold}
-use Rattle.std.specs.Prelude.{not, nat_lt, ◌+◌}
-use Rattle.std.proofs.lemmas.Bool.Decides.{nat_tests}
-use Rattle.stm_run.specs.Fitting.{IsOfText}
+use Rattle.stm_events.specs.SlowDesk.{Slow, after}
+use Rattle.stm_store.specs.Naming.{Named}
+use Rattle.stm_store.specs.Tables.{Declared}
+use Rattle.std.specs.Prelude.{◌⊎◌, if◌then◌else◌}
 use Rattle.stm_lines.specs.Lines.{lines_of}
 use Rattle.stm_run.specs.declared.console.Console.{Console}
 use Rattle.stm_run.specs.Console.{initial_console}
@@ -33,67 +30,78 @@ use Rattle.stm_run.specs.LineCheckpoints.{Turn, states_after, answers_by, ForTur
 use Rattle.stm_run.proofs.EventsOfConsole.{grows_not}
 use Rattle.stm_durable_run.specs.declared.fault.DurableFault.{DurableFault}
 use Rattle.stm_durable_run.specs.declared.fault.DurableFault.TheVariants.{Run, Journal}
-use Rattle.stm_durable_run.specs.DurableRun.{resumed_console, KeepsConsole, ConsoleKept, IsNoJournalFault, HasCommitted, LeavesBetween, CoversAnswers}
-use Rattle.stm_durable_run.specs.NewEvents.{AreTexts, MayBeginRun}
+use Rattle.stm_durable_run.specs.DurableRun.{resumed_console, HasFormat, KeepsConsole, ConsoleKept, IsNoJournalFault, HasCommitted, LeavesBetween, CoversAnswers}
+use Rattle.stm_durable_run.specs.NewEvents.{AreTexts, IsOfItsText, MayBeginRun}
 use Rattle.stm_durable_run.specs.Committing.{HasFinished, HasFailed, LeavesRun}
 use Rattle.stm_durable_run.proofs.Committing.{answers_append}
 use Rattle.stm_durable_run.proofs.Turns.{plains, lines_of_plains}
 use Rattle.stm_durable_run.proofs.RecordedEvents.{between_none, between_still}
 
 -- ---- the beginning
-pub loaded_kept : {D : Type 0} (disk : Disk D) (f : HistoryFile D) (limit : ℕ) (loaded : Option Loaded)
+loaded_format : {D : Type 0} (f : HistoryFile D) (limit : ℕ) (loaded : Option Loaded) → IsFormatOf f.format loaded → HasFormat f (resumed_console limit loaded)
+unfolding initial_console
+loaded_format f limit None is = is
+loaded_format f limit (Some l) is = subst (λ (n : ℕ). IsFormatFor n l.checkpoint l.events.items) (sym is.0) is.1
+
+kept_by : {D : Type 0} (disk : Disk D) (f : HistoryFile D) (limit : ℕ) (loaded : Option Loaded) → HasFormat f (resumed_console limit loaded)
     → LoadedKept disk f loaded → ConsoleKept disk f (resumed_console limit loaded)
 unfolding initial_console
-loaded_kept disk f limit None h = record { history = h.1 (written_start [] None); begun_if_open = h.0 }
-loaded_kept disk f limit (Some l) h = record { history = h.1; begun_if_open = h.0 }
+kept_by disk f limit None is h = record { history = h.1 (record { format = f.format; table = []; checkpoint = None }); format = is; begun_if_open = h.0 }
+kept_by disk f limit (Some l) is h = record {
+  history = subst (λ (n : ℕ). HistoryKept disk f (record { format = n; table = l.table; checkpoint = l.checkpoint }) l.events.items) (sym (h.1.format_is h.0)) h.1;
+  format = is;
+  begun_if_open = h.0;
+}
 
-written_table : (table : List Declared) (o : Option CheckpointView) → (written_start table o).table ≡ table
-written_table table None = refl
-written_table table (Some c) = refl
+pub loaded_kept : {D : Type 0} (disk : Disk D) (f : HistoryFile D) (limit : ℕ) (loaded : Option Loaded)
+    → IsFormatOf f.format loaded → HasLoaded disk f loaded → KeepsConsole disk f (resumed_console limit loaded)
+loaded_kept disk f limit loaded is h =
+    let has = loaded_format f limit loaded is in (has, λ honest. kept_by disk f limit loaded has (h honest))
 
 -- what can be read can be written
-read_fits : (table : List Declared) (o : Option CheckpointView) → IsStart (written_start table o) → StartFits (written_start table o)
-read_fits table None k = k.2
-read_fits table (Some c) k = k.1.fits
+read_fits : (format : ℕ) (table : List Declared) (o : Option CheckpointView) → IsBefore format table o → FitsBefore table o
+read_fits format table None k = k.2
+read_fits format table (Some c) k = k.1.fits
 
-has_room : (twice holds room : Bool) → cond twice (Some declare.Twice) (cond (not holds) (Some declare.TypeOfValue) (cond room None (Some declare.TableFull))) ≡ None → room ≡ true
-has_room true holds room e = absurd (cc e)
-has_room false false room e = absurd (cc e)
-has_room false true true e = refl
-has_room false true false e = absurd (cc e)
+few_variables : (format : ℕ) (table : List Declared) (o : Option CheckpointView) → IsBefore format table o → VariablesFit table
+few_variables format table None k = (k.1, k.2)
+few_variables format table (Some c) k = subst VariablesFit (sym k.0) (omega arith, tt)
 
-room_for : (n : ℕ) → nat_lt n most_cells ≡ true → n + 1 ≤ max_cells
-room_for n e = grind (arith, nat_tests)
+-- the events fit the names that are known where they stand, and so are of their texts
+of_text : (known : List Named) (what : What) → WhatFitsNames known what → IsOfItsText known what
+of_text known (what.Submitted t block) k = k.1
+of_text known (what.Installed t v) k = tt
+of_text known (what.Finished t v n stale) k = tt
+of_text known (what.Cancelled t) k = tt
+of_text known (what.Declared name kind value) k = tt
 
-few_from : (prior ds : List Declared) → AreVariablesFrom prior ds → length prior ≤ max_cells → length (prior ++ ds) ≤ max_cells
-few_from prior [] a few = subst (λ (x : List Declared). length x ≤ max_cells) (sym (append-nil prior)) few
-few_from prior (d ∷ ds) a few =
-    let room = room_for (length prior) (has_room _ (may_hold (declared_cells prior) d.kind d.value) (nat_lt (length prior) most_cells) a.0.may) in
-    subst (λ (x : List Declared). length x ≤ max_cells) (append_assoc prior (d ∷ []) ds)
-    (few_from (prior ++ d ∷ []) ds a.1 (omega (arith, room, length-append prior (d ∷ []))))
+events_texts : (format : ℕ) (s : Slow) (es : List Event) → AreEvents format s es → AreTexts s es
+events_texts format s [] a = tt
+events_texts format s (e ∷ es) a = (of_text s.names e.what a.0.1, events_texts format (after s e.what) es a.3)
 
-few_variables : (table : List Declared) (o : Option CheckpointView) → IsStart (written_start table o) → VariablesFit table
-few_variables table None k = (k.1, k.2)
-few_variables table (Some c) k = (few_from [] table k.1.fits.variables (omega arith), k.1.fits.variables)
+-- a history that goes by the present rule begins where the desk does
+same_beginning : (format : ℕ) (table : List Declared) (o : Option CheckpointView) → IsFormatFor format o [] ⊎ (format ≡ declaring_format) → started_by (rule_of format) table o ≡ start_of table o
+same_beginning format table (Some c) is = refl
+same_beginning format table None (inl (inl is)) = ap (λ (n : ℕ). started_by (rule_of n) table None) is
+same_beginning format table None (inl (inr is)) = ap (λ (n : ℕ). started_by (rule_of n) table None) is
+same_beginning format table None (inr is) = ap (λ (n : ℕ). started_by (rule_of n) table None) is
 
--- the events of a table fit it, and so are of their texts
-of_text : (table : List Declared) (what : What) → WhatFitsTable table what → IsOfText table what
-of_text table (what.Submitted t block) k = k.1
-of_text table (what.Installed t v) k = tt
-of_text table (what.Finished t v n stale) k = tt
-of_text table (what.Cancelled t) k = tt
+begins_by : (format : ℕ) (o : Option CheckpointView) (es : List Event) → IsFormatFor format o es → IsFormatFor format o [] ⊎ (format ≡ declaring_format)
+begins_by format o es (inr is) = inr is
+begins_by format o es (inl is) = by (declares es) is
+  where
+    by : (b : Bool) → format ≡ (if b then declaring_format else format_of_start o) → IsFormatFor format o [] ⊎ (format ≡ declaring_format)
+    by true is = inr is
+    by false is = inl (inl is)
 
-events_texts : (format : ℕ) (table : List Declared) (es : List Event) → AreEvents format table es → AreTexts table es
-events_texts format table [] a = tt
-events_texts format table (e ∷ es) a = (of_text table e.what a.0.1, events_texts format table es a.3)
-
-pub may_begin : (limit : ℕ) (loaded : Option Loaded) → IfSome loaded (λ h. HasText (loaded_start h) h.events.items) → MayBeginRun (resumed_console limit loaded)
+pub may_begin : (format limit : ℕ) (loaded : Option Loaded) → IfSome loaded (λ h. HasText (loaded_start h) h.events.items) → IsFormatOf format loaded → MayBeginRun (resumed_console limit loaded)
 unfolding initial_console
-may_begin limit None text = record { start = tt; variables = (omega arith, tt); texts = tt }
-may_begin limit (Some l) text = record {
-  start = read_fits l.table l.checkpoint text.1.start;
-  variables = few_variables l.table l.checkpoint text.1.start;
-  texts = subst (λ (t : List Declared). AreTexts t l.events.items) (written_table l.table l.checkpoint) (events_texts (loaded_start l).format (loaded_start l).table l.events.items text.1.events);
+may_begin format limit None text is = record { start = tt; variables = (omega arith, tt); texts = tt }
+may_begin format limit (Some l) text is = record {
+  start = read_fits l.format l.table l.checkpoint text.1.start;
+  variables = few_variables l.format l.table l.checkpoint text.1.start;
+  texts = subst (λ (s : Slow). AreTexts s l.events.items) (same_beginning l.format l.table l.checkpoint (begins_by l.format l.checkpoint l.events.items is.1))
+      (events_texts l.format (first_state (loaded_start l)) l.events.items text.1.events);
 }
 
 -- ---- the end
@@ -146,10 +154,10 @@ module _ {D : Type 0} (Cause : Type 0) (disk : Disk D) (f : HistoryFile D) (was 
   finished_is : IsTrue disk.is_honest → (turns : List (Turn Cause)) → Finished turns → Committed turns
   finished_is real turns h =
       let text = answers_by every s turns in
-      (text, h.appended, record { answered = turns; others = []; parts = sym (append-nil turns); front = whole_prefix text; kept = h.kept real })
+      (text, h.appended, record { answered = turns; others = []; parts = sym (append-nil turns); front = whole_prefix text; kept = h.kept.1 real })
 
   stopped_is : IsTrue disk.is_honest → (e : DurableFault) → IsNoJournalFault {A = Unit} (Err e) → (turns : List (Turn Cause)) → Failed e turns → Committed turns
-  stopped_is real (Run x) free turns h = (h.written, h.appended, record { answered = h.answered; others = h.others; parts = h.parts; front = h.front; kept = h.kept real })
+  stopped_is real (Run x) free turns h = (h.written, h.appended, record { answered = h.answered; others = h.others; parts = h.parts; front = h.front; kept = h.kept.1 real })
   stopped_is real (Journal e) free turns h = absurd free
 
   pub is_committed : IsTrue disk.is_honest → (r : Result Unit DurableFault) → IsNoJournalFault r → OnOk r (Over Finished) → IfErr r (λ e. Over (Failed e)) → Over Committed

@@ -9,6 +9,7 @@ use Rattle.stm_journal.specs.Disk.{Disk, LeavesOnly}
 use Rattle.stm_journal.proofs.Moments.{weaker}
 use Rattle.stm_machine.specs.Checkpoints.{max_next}
 use Rattle.stm_desk.specs.DeskView.{state_of}
+use Rattle.stm_durable.specs.Durable.{IsFormatFor}
 use Rattle.stm_durable.specs.declared.recording.HistoryFile.{HistoryFile}
 use Rattle.stm_commands.specs.Checkpointing.{are_tickets_full, begun_anew, checkpoint_line}
 use Rattle.stm_commands.specs.OpenDesk.{OpenDesk}
@@ -16,7 +17,7 @@ use Rattle.stm_commands.specs.Refusals.{refused}
 use Rattle.stm_run.specs.declared.console.Console.{Console}
 use Rattle.stm_run.specs.declared.console.Console.TheVariants.{Declaring, Open}
 use Rattle.stm_run.specs.Console.{on_console, step}
-use Rattle.stm_run.specs.ConsoleState.{present_desk, is_open, table_of, events_of, with_checkpoint}
+use Rattle.stm_run.specs.ConsoleState.{present_desk, is_open, table_of, checkpoint_of_console, events_of, with_checkpoint}
 use Rattle.stm_run.specs.Fitting.{VariablesFit}
 use Rattle.stm_run.specs.Growing.{Grows}
 use Rattle.stm_run.specs.LineCheckpoints.{auto_checkpoint, auto_step, line_checkpoints, made_step, refused_step}
@@ -171,10 +172,10 @@ module _ {D : Type 0} (disk : Disk D) (f : HistoryFile D) (now : (c : List ℕ) 
       (between_still disk f c c (grows_not c) k now) (λ x h. inl h)
 
   pub taking_still : (s made : Console) (n : ℕ) → TakingLeaves disk f f s n made
-  taking_still s made n = λ honest c. still c.committed made (c.kept honest)
+  taking_still s made n = λ honest c. still c.committed made (c.kept.1 honest)
 
   pub either_still : (t : Console) → BeginningLeavesEither disk f f t
-  either_still t = λ honest c. still c.committed (asked_step t).0 (c.kept honest)
+  either_still t = λ honest c. still c.committed (asked_step t).0 (c.kept.1 honest)
 
 -- ---- a checkpoint that was tried
 -- why the file refused it
@@ -236,8 +237,12 @@ module _ {D : Type 0} (disk : Disk D) (old new : HistoryFile D) (s t : Console) 
 
 -- what is reported changes nothing
 module _ {D : Type 0} (disk : Disk D) (old mid new : HistoryFile D) (same : IsTrue disk.is_honest → new ≡ mid) where
-  pub reported_keeps : KeepsConsoles disk old mid → KeepsConsoles disk old new
-  reported_keeps keeps = λ s k honest. subst (λ (f : HistoryFile D). ConsoleKept disk f s) (sym (same honest)) (keeps s k honest)
+  pub reported_keeps : new.format ≡ mid.format → KeepsConsoles disk old mid → KeepsConsoles disk old new
+  reported_keeps format keeps = λ s k.
+      let mids = keeps s k in (
+        subst (λ (n : ℕ). IsFormatFor n (checkpoint_of_console s) (events_of s)) (sym format) mids.0,
+        λ honest. subst (λ (f : HistoryFile D). ConsoleKept disk f s) (sym (same honest)) (mids.1 honest),
+      )
 
   pub reported_leaves : (t : Console) → BeginningLeaves disk old mid t → BeginningLeaves disk old new t
   reported_leaves t h = λ honest. subst (λ (f : HistoryFile D). (c : MayBeginAnew (KeepsConsole disk old) t) → LeavesOnly disk old.journal.device f.journal.device

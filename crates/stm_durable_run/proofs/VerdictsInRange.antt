@@ -11,13 +11,12 @@ use Rattle.stm_terms.specs.declared.verdicts.Verdict.TheVariants.{Commits, Throw
 use Rattle.stm_terms.specs.Limits.{most_refs}
 use Rattle.stm_store.specs.declared.cell.Cell.{Cell}
 use Rattle.stm_store.specs.Cells.{plains, Covers, Fits, StoreIsTyped}
-use Rattle.stm_store.specs.Tables.{Declared}
 use Rattle.stm_store.proofs.ApplyPreservesTyping.{applied_typed, covered_stay}
 use Rattle.stm_check.specs.TypedBlock.{Block}
 use Rattle.stm_check.proofs.TypingLaws.{every_verdict_fits}
 use Rattle.stm_events.specs.declared.event.Event.{Event}
 use Rattle.stm_events.specs.declared.event.What.{What}
-use Rattle.stm_events.specs.declared.event.What.TheVariants.{Submitted, Installed, Finished, Cancelled}
+use Rattle.stm_events.specs.declared.event.What.TheVariants.{Submitted, Installed, Finished, Cancelled, Declared as DeclaredLate}
 use Rattle.stm_events.specs.Laws.{IsWellTyped, SubmittedAreWellTyped}
 use Rattle.stm_events.specs.SlowDesk.{Waiter, Slow, verdict_on, find_waiter, after, Allows, LegalFrom}
 use Rattle.stm_events.proofs.TypedStores.{typed_verdict}
@@ -47,22 +46,22 @@ found_fits cells o v b is range =
     fits_range cells v (subst (Fits cells) same b.2) range
 
 -- ---- events
-module _ (table : List Declared) where
-  by_waiter : (s : Slow) → IsSound table s → (t : ℕ) (v : Verdict) (P : Waiter → Type 0) (o : Option Waiter) → find_waiter t s.waiters ≡ o → IsSomeAnd o P
-      → ((w : Waiter) → P w → verdict_on s.store w.block ≡ Some v) → IsInRange v → FitsVerdict v
-  by_waiter s k t v P None found p is range = absurd p
-  by_waiter s k t v P (Some w) found p is range = found_fits (plains s.store) (verdict_on s.store w.block) v (typed_verdict s t w k.possible k.typed found) (is w p) range
+by_waiter : (s : Slow) → IsSound s → (t : ℕ) (v : Verdict) (P : Waiter → Type 0) (o : Option Waiter) → find_waiter t s.waiters ≡ o → IsSomeAnd o P
+    → ((w : Waiter) → P w → verdict_on s.store w.block ≡ Some v) → IsInRange v → FitsVerdict v
+by_waiter s k t v P None found p is range = absurd p
+by_waiter s k t v P (Some w) found p is range = found_fits (plains s.store) (verdict_on s.store w.block) v (typed_verdict s t w k.possible k.typed found) (is w p) range
 
-  allowed_in_range : (s : Slow) → IsSound table s → (what : What) → Allows s what → IsEventInRange what → IsVerdictInRange what
-  allowed_in_range s k (Submitted t block) a range = tt
-  allowed_in_range s k (Installed t v) a range = by_waiter s k t v _ (find_waiter t s.waiters) refl a (λ w m. m.verdict_is) range
-  allowed_in_range s k (Finished t v n stale) a range = by_waiter s k t v _ (find_waiter t s.waiters) refl a (λ w m. m.verdict_is) range
-  allowed_in_range s k (Cancelled t) a range = tt
+allowed_in_range : (s : Slow) → IsSound s → (what : What) → Allows s what → IsEventInRange what → IsVerdictInRange what
+allowed_in_range s k (Submitted t block) a range = tt
+allowed_in_range s k (Installed t v) a range = by_waiter s k t v _ (find_waiter t s.waiters) refl a (λ w m. m.verdict_is) range
+allowed_in_range s k (Finished t v n stale) a range = by_waiter s k t v _ (find_waiter t s.waiters) refl a (λ w m. m.verdict_is) range
+allowed_in_range s k (Cancelled t) a range = tt
+allowed_in_range s k (DeclaredLate name kind value) a range = tt
 
-  pub all_in_range : (s : Slow) → IsSound table s → (es : List Event) → LegalFrom s es → SubmittedAreWellTyped es → AreEventsInRange es → AreVerdictsInRange es
-  all_in_range s k [] l w range = tt
-  all_in_range s k (e ∷ es) l w range =
-      (allowed_in_range s k e.what l.0.what range.0, all_in_range (after s e.what) (sound_after table s e.what k l.0.what w.0) es l.1 w.1 range.1)
+pub all_in_range : (s : Slow) → IsSound s → (es : List Event) → LegalFrom s es → SubmittedAreWellTyped es → AreEventsInRange es → AreVerdictsInRange es
+all_in_range s k [] l w range = tt
+all_in_range s k (e ∷ es) l w range =
+    (allowed_in_range s k e.what l.0.what range.0, all_in_range (after s e.what) (sound_after s e.what k l.0.what w.0) es l.1 w.1 range.1)
 
 -- ---- a last delivery
 pub delivery_fits : (store : List Cell) (block : Block) (stale : Bool) (h : Held) → StoreIsTyped (plains store) → Covers (plains store) block.uses → IsWellTyped block → IsRightDelivery store block stale (Some h)

@@ -6,12 +6,13 @@ use Rattle.stm_events.specs.SlowDesk.{state_from}
 use Rattle.stm_machine.specs.Checkpoints.{start_of}
 use Rattle.stm_history.specs.declared.files.loading.Loaded.{Loaded}
 use Rattle.stm_history.specs.HistoryText.{start_text}
+use Rattle.stm_history.specs.Starts.{Start}
 use Rattle.stm_journal.specs.declared.error.JournalError.{JournalError}
 use Rattle.stm_journal.specs.declared.error.JournalError.TheVariants.{NoMemory, Failed, NoSpace, TornTooLong}
 use Rattle.stm_journal.specs.declared.sync_mode.SyncMode.{SyncMode}
 use Rattle.stm_journal.specs.Disk.{Disk, MayFail, FailsOnlyIfAny}
 use Rattle.stm_journal.specs.Device.{Own}
-use Rattle.stm_durable.specs.Durable.{HistoryKept, LeavesHistory}
+use Rattle.stm_durable.specs.Durable.{HistoryKept, IsFormatFor, LeavesHistory}
 use Rattle.stm_durable.specs.declared.recording.HistoryFile.{HistoryFile}
 use Rattle.stm_lines.specs.RunStatus.{status_of}
 use Rattle.stm_commands.specs.DueTickets.{queue_for}
@@ -41,14 +42,24 @@ resumed_console limit (Some h) =
       jobs = [];
     })
 
--- The file has exactly the history of the console from its last checkpoint on, on the disk if the journal syncs; before the desk is
--- open it has nothing.
+-- where the history of the console begins, written in this format
+abbrev pub start_in : ℕ → Console → Start
+start_in format s = record { format = format; table = table_of s; checkpoint = checkpoint_of_console s }
+
+-- the file's format is one for the history of the console
+abbrev pub HasFormat : {D : Type 0} → HistoryFile D → Console → Type 0
+HasFormat f s = IsFormatFor f.format (checkpoint_of_console s) (events_of s)
+
+-- The file has exactly the history of the console from its last checkpoint on, in a format for it, on the disk if the journal syncs;
+-- before the desk is open it has nothing.
 pub record ConsoleKept {D : Type 0} (disk : Disk D) (f : HistoryFile D) (s : Console) : Type 0 where
-  pub history : HistoryKept disk f (start_of_console s) (events_of s)
+  pub history : HistoryKept disk f (start_in f.format s) (events_of s)
+  pub format : HasFormat f s
   pub begun_if_open : f.begun ≡ is_open s
 
+-- so on a disk that does what it says; the format is known on each
 abbrev pub KeepsConsole : {D : Type 0} → Disk D → HistoryFile D → Console → Type 0
-KeepsConsole disk f s = IsTrue disk.is_honest → ConsoleKept disk f s
+KeepsConsole disk f s = HasFormat f s × (IsTrue disk.is_honest → ConsoleKept disk f s)
 
 -- ---- what a run leaves
 
@@ -64,8 +75,9 @@ pub record HasCommitted
 
 -- What a crash may leave after all events of the earlier console were recorded, and while those are recorded that follow up to the
 -- later one, if there is no checkpoint between them: a batch of events was begun after a history that has all events of the
--- earlier one.
+-- earlier one. Both are in one format, which is one for all of these.
 pub record LeavesEvents (sync : SyncMode) (zeros : Bool) (earlier later : Console) (file : List ℕ) : Type 0 where
+  pub format : ℕ
   pub begun : Bool
   pub recorded : List Event
   pub batch : List Event
@@ -75,7 +87,8 @@ pub record LeavesEvents (sync : SyncMode) (zeros : Bool) (earlier later : Consol
   pub same_table : is_open earlier ≡ true → table_of later ≡ table_of earlier
   pub begun_if_open : is_open earlier ≡ true → begun ≡ true
   pub none : begun ≡ false → events_of earlier ++ recorded ≡ []
-  pub left : LeavesHistory sync zeros begun (start_of_console later) (events_of earlier ++ recorded) batch file
+  pub written : IsFormatFor format (checkpoint_of_console later) ((events_of earlier ++ recorded) ++ batch)
+  pub left : LeavesHistory sync zeros begun (start_in format later) (events_of earlier ++ recorded) batch file
 
 -- What a crash leaves once a new file has taken the place of the old one, if the console has just made a checkpoint: all lines of the
 -- checkpoint, and no event.

@@ -10,7 +10,7 @@ use Rattle.stm_terms.specs.declared.verdicts.Verdict.{Verdict}
 use Rattle.stm_terms.specs.declared.verdicts.Verdict.TheVariants.{Commits, Throws, Blocks}
 use Rattle.stm_events.specs.declared.event.Event.{Event}
 use Rattle.stm_events.specs.declared.event.What.{What}
-use Rattle.stm_events.specs.declared.event.What.TheVariants.{Submitted, Installed, Finished, Cancelled}
+use Rattle.stm_events.specs.declared.event.What.TheVariants.{Submitted, Installed, Finished, Cancelled, Declared as DeclaredLate}
 use Rattle.stm_event_lines.specs.Fits.{Is32Bit, FitsInt, FitsValue, FitWrites}
 
 -- the values of new variables are in range
@@ -25,12 +25,13 @@ IsInRange (Throws (Thrown n)) = FitsInt n
 IsInRange (Throws Overflow) = ⊤
 IsInRange Blocks = ⊤
 
--- those of the verdict of an event, if it has one
+-- those of the verdict of an event, if it has one, and the first value of a variable
 abbrev pub IsEventInRange : What → Type 0
 IsEventInRange (Submitted ticket block) = ⊤
 IsEventInRange (Installed ticket v) = IsInRange v
 IsEventInRange (Finished ticket v first_new stale) = IsInRange v
 IsEventInRange (Cancelled ticket) = ⊤
+IsEventInRange (DeclaredLate name kind value) = FitsValue value
 
 -- so of each event
 abbrev pub AreEventsInRange : List Event → Type 0

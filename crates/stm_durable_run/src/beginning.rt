@@ -16,6 +16,7 @@ use std::alloc::Global;
 use stm_commands::OpenDesk;
 use stm_desk::Checkpoint;
 use stm_durable::HistoryFile;
+use stm_history::format_for;
 use stm_journal::{Replace, ReplaceError};
 use stm_run::console::Console;
 
@@ -38,8 +39,11 @@ fn begin_desk_anew<D: Replace + Drop>(
 {
     cells_in_range(checkpoint.store());
     blocks_in_range(checkpoint.blocks());
+    // The names of a checkpoint may be known together, as this shows.
+    let _names = checkpoint.names().len();
     checkpoints_fit();
-    file.begin_anew(alloc, desk.table(), Some(checkpoint))
+    let format = format_for(Some(checkpoint), &[]);
+    file.begin_anew(alloc, format, desk.table(), Some(checkpoint), &[])
 }
 
 /// Replaces the file of a console by one that begins from the checkpoint of its open desk. A refusal leaves the file as it was.

@@ -1,10 +1,10 @@
 //! What holds of the events that a console adds, and of its checkpoints.
 
-ghost use Rattle.stm_durable_run.specs.NewEvents.{CheckpointsFit, NewEventsFit};
+ghost use Rattle.stm_durable_run.specs.NewEvents.{CheckpointsFit, LastEventsFit};
 
-/// New events can be in lines of a history if their values are in range, which reading them shows.
-pub(crate) fn new_events_fit()
-    ensures { NewEventsFit }
+/// The last events can be in lines of a history if their values are in range, which reading them shows.
+pub(crate) fn last_events_fit()
+    ensures { LastEventsFit }
 {
     stm_history::files::laws::checked_are_well_typed();
 }

@@ -44,7 +44,7 @@ fn verdict_in_range(verdict: &SharedVerdict)
     }
 }
 
-/// The verdict of an event is in range, if it has one.
+/// The verdict of an event is in range, if it has one, and so is the first value of a variable.
 fn event_in_range(event: &Event)
     ensures { IsEventInRange event.now.what }
 {
@@ -53,6 +53,7 @@ fn event_in_range(event: &Event)
         What::Installed { verdict, .. } => verdict_in_range(verdict),
         What::Finished { verdict, .. } => verdict_in_range(verdict),
         What::Cancelled { .. } => {}
+        What::Declared { value, .. } => value_in_range(*value),
     }
 }
 

@@ -10,7 +10,7 @@ ghost use Rattle.stm_events.specs.States.{IsLegalFrom};
 ghost use Rattle.stm_machine.specs.Checkpoints.{MayStart, start_of};
 ghost use Rattle.stm_machine.specs.Machine.{IsAt};
 ghost use Rattle.stm_journal.specs.Disk.{LeavesOnly};
-ghost use Rattle.stm_durable.specs.Durable.{HasLoaded};
+ghost use Rattle.stm_durable.specs.Durable.{HasLoaded, IsFormatOf};
 ghost use Rattle.stm_lines.specs.Lines.{lines_of, whole_lines_of};
 ghost use Rattle.stm_lines.specs.TakenLines.{bytes_to_come};
 ghost use Rattle.stm_options.specs.Options.{AreRunOptions};
@@ -271,6 +271,9 @@ fn run_begun<T: Threads + Sync, R: Read, W: Write, D: Replace + Drop, L: Ledger>
 /// as soon as 64 KiB are held. Events are recorded in batches of at most 4,096; an event whose line has more than 1 MiB is
 /// refused as `JournalError::TooLong`. After a fault of the journal the file has to be opened again.
 ///
+/// If an event declares a variable and the file is in a format in which none can, the history is written anew, to a new file that takes
+/// the place of the old one: so once at most.
+///
 /// At a checkpoint a new file takes the place of the old one at once. A line asks for a checkpoint, or one comes by itself after a
 /// line that adds an event, once the history has `checkpoint_every` events. If the file refuses it, the run goes on in the old file: the
 /// line is refused, or no checkpoint comes by itself, and is tried again when an eighth of `checkpoint_every` events has been added.
@@ -292,6 +295,7 @@ pub fn run_durable<T: Threads + RandomSource + Sync, R: Read, W: Write, D: Repla
     requires lines { IfSome loaded (λ h. HasText (loaded_start h) h.events.items) }
     requires typed { IfSome loaded (λ h. SubmittedAreWellTyped h.events.items) }
     requires kept { HasLoaded D.disk file.old loaded }
+    requires format { IsFormatOf file.old.format loaded }
     requires fits { IfSome loaded (λ h. length h.events.items ≤ options.max_events) }
     // The answers to all lines were written, and the file has exactly the history of all lines. Some of the checkpoints may have been
     // refused, for a cause.

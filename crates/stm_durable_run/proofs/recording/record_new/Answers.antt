@@ -10,17 +10,17 @@ pub returns-in-Declaring-clause-count : goal.returns-in-Declaring-clause-count
 returns-in-Declaring-clause-count g c = declaring_count _ _ _ _ _ c.in-Declaring.is c.requires
 
 pub returns-in-Declaring-clause-recorded : goal.returns-in-Declaring-clause-recorded
-returns-in-Declaring-clause-recorded g c = λ honest.
+returns-in-Declaring-clause-recorded g c =
     let D = g.D.Device.disk in
     let f = c.args.file.now in
     let m = c.requires in
-    declaring_kept D f m.committed _ _ _ c.in-Declaring.is m.grows (m.kept honest)
+    declaring_kept D f m.committed _ _ _ c.in-Declaring.is m.grows m.kept
 
 pub returns-in-Declaring-clause-any_moment : goal.returns-in-Declaring-clause-any_moment
 returns-in-Declaring-clause-any_moment g c = λ honest m.
     let D = g.D.Device.disk in
     let f = c.args.file.now in
-    between_still D f m.committed c.args.console.now m.grows (m.kept honest)
+    between_still D f m.committed c.args.console.now m.grows (m.kept.1 honest)
     (g.met.D.Device.lawful.only_now f.journal.device)
 
 pub returns-in-Open-clause-any_moment : goal.returns-in-Open-clause-any_moment

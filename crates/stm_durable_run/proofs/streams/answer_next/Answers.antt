@@ -91,7 +91,7 @@ returns-in-Ok-End-clause-any_moment g c = λ honest first input old h.
     let f = c.args.file.now in
     let a = h.after in
     input_run _ D f.journal.sync D.fills_with_zeros c.args.every first h.lines input f.journal.device f.journal.device (come_begins _ c.args.every first input _ old _ _ _ _ h)
-    (lines_still _ D f.journal.sync D.fills_with_zeros c.args.every first _ h.lines old _ _ _ _ a.behind f refl refl (a.behind.kept honest) (g.met.D.Device.lawful.only_now f.journal.device))
+    (lines_still _ D f.journal.sync D.fills_with_zeros c.args.every first _ h.lines old _ _ _ _ a.behind f refl refl (a.behind.kept.1 honest) (g.met.D.Device.lawful.only_now f.journal.device))
 
 -- ---- the reader failed
 pub returns-in-Ok-commit-clause-fault : goal.returns-in-Ok-commit-clause-fault

@@ -11,14 +11,14 @@ returns-then-is_buffered-clause-any_moment g c = λ honest every first input res
     let f = c.args.file.now in
     let a = h.after in
     input_run _ D f.journal.sync D.fills_with_zeros every first h.lines input f.journal.device f.journal.device (come_begins _ every first input rest old _ _ _ _ h)
-    (lines_still _ D f.journal.sync D.fills_with_zeros every first _ h.lines old _ _ _ _ a.behind f refl refl (a.behind.kept honest) (g.met.D.Device.lawful.only_now f.journal.device))
+    (lines_still _ D f.journal.sync D.fills_with_zeros every first _ h.lines old _ _ _ _ a.behind f refl refl (a.behind.kept.1 honest) (g.met.D.Device.lawful.only_now f.journal.device))
 
 pub returns-else-is_buffered-clause-done : goal.returns-else-is_buffered-clause-done
 returns-else-is_buffered-clause-done g c =
     let D = g.D.Device.disk in
     let f = c.hand_on.new.file in
     let e = c.hand_on.ensures in
-    on_done (IsTrue D.is_honest) c.hand_on.result e.done e.none e.count e.kept _ (λ w n m k every first input rest old h.
+    on_done c.hand_on.result e.done e.none e.count e.kept _ (λ w n m k every first input rest old h.
     comes_after _ every first input rest old _ _ _ _ h _ _ _ _ _
     (all_written _ every first h.lines old _ _ _ _ h.after.behind (KeepsConsole D f) _ _ _ _ w e.console n m k (may_begin_next _ _ _ _ _ _ _ _ _ h.after)))
 

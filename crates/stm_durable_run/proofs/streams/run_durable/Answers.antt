@@ -4,21 +4,21 @@ use Rattle.stm_terms.specs.Texts.{IsPrefixOf}
 use Rattle.stm_lines.specs.Lines.{lines_of}
 use Rattle.stm_run.specs.declared.console.Console.{Console}
 use Rattle.stm_run.specs.LineCheckpoints.{states_after, answers_by, ForTurns}
-use Rattle.stm_durable_run.specs.DurableRun.{resumed_console, ConsoleKept, KeepsConsole, RefusalCause, HasCommitted, CoversAnswers}
+use Rattle.stm_durable_run.specs.DurableRun.{resumed_console, KeepsConsole, RefusalCause, HasCommitted, CoversAnswers}
 use Rattle.stm_durable_run.specs.NewEvents.{MayBeginRun}
 use Rattle.stm_durable_run.proofs.Ended.{loaded_kept, may_begin, all_answered, part_answered, part_still, is_committed, is_covered, committed_still, covered_still, leaves_still, if_some, for_plains}
 use Rattle.stm_durable_run.proofs.streams.run_durable.Goals as goal
 
 pub run_begun-requires-clause-may_begin : goal.run_begun-requires-clause-may_begin
 run_begun-requires-clause-may_begin g c κs within =
-    subst MayBeginRun (sym c.in-Ok.ensures.console) (may_begin c.args.options.max_events c.args.loaded c.requires.lines)
+    subst MayBeginRun (sym c.in-Ok.ensures.console) (may_begin c.args.file.now.format c.args.options.max_events c.args.loaded c.requires.lines c.requires.format)
 
 pub run_begun-requires-clause-kept : goal.run_begun-requires-clause-kept
-run_begun-requires-clause-kept g c κs within = λ honest.
+run_begun-requires-clause-kept g c κs within =
     let D = g.D.Device.disk in
     let f = c.args.file.now in
-    subst (ConsoleKept D f) (sym c.in-Ok.ensures.console)
-    (loaded_kept D f c.args.options.max_events c.args.loaded (c.requires.kept honest))
+    subst (KeepsConsole D f) (sym c.in-Ok.ensures.console)
+    (loaded_kept D f c.args.options.max_events c.args.loaded c.requires.format c.requires.kept)
 
 pub returns-in-Ok-clause-answered : goal.returns-in-Ok-clause-answered
 returns-in-Ok-clause-answered g c =
@@ -78,20 +78,20 @@ pub returns-in-Err-clause-committed : goal.returns-in-Err-clause-committed
 returns-in-Err-clause-committed g c = λ honest none.
     let D = g.D.Device.disk in
     let f = c.args.file.now in
-    let k = loaded_kept D f c.args.options.max_events c.args.loaded (c.requires.kept honest) in
+    let k = (loaded_kept D f c.args.options.max_events c.args.loaded c.requires.format c.requires.kept).1 honest in
     if_some _ _ (λ bytes. for_plains (lines_of bytes) _ (λ turns. committed_still c.args.options.checkpoint_every (resumed_console c.args.options.max_events c.args.loaded) turns D f _ k))
 
 pub returns-in-Err-clause-covered : goal.returns-in-Err-clause-covered
 returns-in-Err-clause-covered g c = λ honest.
     let D = g.D.Device.disk in
     let f = c.args.file.now in
-    let k = loaded_kept D f c.args.options.max_events c.args.loaded (c.requires.kept honest) in
+    let k = (loaded_kept D f c.args.options.max_events c.args.loaded c.requires.format c.requires.kept).1 honest in
     if_some _ _ (λ bytes. for_plains (lines_of bytes) _ (λ turns. covered_still c.args.options.checkpoint_every (resumed_console c.args.options.max_events c.args.loaded) turns D f _ k))
 
 pub returns-in-Err-clause-any_moment : goal.returns-in-Err-clause-any_moment
 returns-in-Err-clause-any_moment g c = λ honest.
     let D = g.D.Device.disk in
     let f = c.args.file.now in
-    let k = loaded_kept D f c.args.options.max_events c.args.loaded (c.requires.kept honest) in
+    let k = (loaded_kept D f c.args.options.max_events c.args.loaded c.requires.format c.requires.kept).1 honest in
     if_some _ _ (λ bytes. leaves_still c.args.options.checkpoint_every (resumed_console c.args.options.max_events c.args.loaded) (lines_of bytes) D f k
     (g.met.D.Device.lawful.only_now f.journal.device))

@@ -20,7 +20,7 @@ lines-init g c =
     let input = g.R.Read.remaining c.args.calls.now.reader.now in
     record {
       come = comes_first _ c.args.every s input _ _ _ _ r.may_begin r.held r.recorded r.kept (ap (λ (l : List ℕ). prepend_known l input) r.chunk ∙ prepend_known-nil input);
-      moment = λ honest. run_still _ D f.journal.sync D.fills_with_zeros c.args.every s input f refl refl (r.kept honest) (g.met.D.Device.lawful.only_now f.journal.device);
+      moment = λ honest. run_still _ D f.journal.sync D.fills_with_zeros c.args.every s input f refl refl (r.kept.1 honest) (g.met.D.Device.lawful.only_now f.journal.device);
       because = λ more. absurd (omega (arith, r.tries, more));
       sync = refl;
       same_reader = refl;
@@ -83,7 +83,7 @@ returns-then-not-branch-clause-done g c =
     let last = rw c.if-not-branch.true at c.in_ok-answer_next.ensures.done in
     let end = last _ _ _ come in
     let e = c.hand_on.ensures in
-    on_done (IsTrue D.is_honest) c.hand_on.result e.done e.none e.count e.kept _ (λ w n m k.
+    on_done c.hand_on.result e.done e.none e.count e.kept _ (λ w n m k.
     all_finished _ _ _ end.lines _ _ _ end.lines_are
     (finished _ _ _ end.lines _ _ _ _ _ end.after.behind (KeepsConsole D f) _ w k))
 

@@ -125,7 +125,7 @@ returns-in-Ok-Streamed-clause-done g c =
     let k = rw c.in-Ok-Streamed.field-0-is at c.in-Ok-Streamed.ensures.taken in
     let grown = (rw c.in-Ok-Streamed.field-0-is at c.in-Ok-Streamed.ensures.grows) refl in
     let fit = (rw c.in-Ok-Streamed.field-0-is at c.in-Ok-Streamed.ensures.variables) refl in
-    on_done (IsTrue D.is_honest) c.stream.result e.done e.none e.count e.kept _ (λ w n m kept first before old judged alike a.
+    on_done c.stream.result e.done e.none e.count e.kept _ (λ w n m kept first before old judged alike a.
     let next = after_kept _ (KeepsConsole D c.take_line.new.file) c.args.every first _ old _ _ _ _ k.3 (held_more _ c.args.every first before old _ _ _ _ a c.args.line.now judged None _ _ _ alike k.0 k.1 k.2 grown fit) in
     (None, all_written _ c.args.every first (before ++ made_turn judged ∷ []) old _ _ _ _ next.behind (KeepsConsole D f) _ _ _ _ w e.console n m kept (may_begin_next _ _ _ _ _ _ _ _ _ next)))
 

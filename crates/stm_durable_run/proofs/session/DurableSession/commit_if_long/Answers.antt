@@ -8,7 +8,7 @@ pub returns-then-len-lt-MOST_HELD-clause-any_moment : goal.returns-then-len-lt-M
 returns-then-len-lt-MOST_HELD-clause-any_moment g c = λ honest every first lines old a.
     let D = g.D.Device.disk in
     let f = c.args.file.now in
-    lines_still _ D f.journal.sync D.fills_with_zeros every first _ lines old _ _ _ _ a.behind f refl refl (a.behind.kept honest)
+    lines_still _ D f.journal.sync D.fills_with_zeros every first _ lines old _ _ _ _ a.behind f refl refl (a.behind.kept.1 honest)
     (g.met.D.Device.lawful.only_now f.journal.device)
 
 pub returns-else-len-lt-MOST_HELD-clause-done : goal.returns-else-len-lt-MOST_HELD-clause-done
@@ -16,7 +16,7 @@ returns-else-len-lt-MOST_HELD-clause-done g c =
     let D = g.D.Device.disk in
     let f = c.commit.new.file in
     let e = c.commit.ensures in
-    on_done (IsTrue D.is_honest) c.commit.result e.done e.none e.count e.kept _ (λ w n m k every first lines old a.
+    on_done c.commit.result e.done e.none e.count e.kept _ (λ w n m k every first lines old a.
     all_written _ every first lines old _ _ _ _ a.behind
     (KeepsConsole D f) _ _ _ _ w e.console n m k (may_begin_next _ _ _ _ _ _ _ _ _ a))
 
