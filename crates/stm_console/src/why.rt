@@ -10,7 +10,9 @@ ghost use Rattle.stm_history.specs.Judgement.{ReportsFault};
 use crate::checking::{Finding, write_finding};
 use std::alloc::Global;
 use std::io::{ErrorKind, Read, Write};
-use stm_commands::refusals::{refuse_cancel, refuse_delivery, refuse_finish, refuse_submit};
+use stm_commands::refusals::{
+    refuse_cancel, refuse_delivery, refuse_finish, refuse_late_declaration, refuse_submit,
+};
 use stm_history::{CallRefusal, Explanation, HistoryFault, Reason, why_history};
 use stm_lines::RunFault;
 use stm_lines::output::write_flushed;
@@ -52,6 +54,7 @@ fn write_refusal(refusal: CallRefusal, out: &mut String) -> Result<(), NoMemory>
         CallRefusal::Delivery(error) => refuse_delivery(error, out),
         CallRefusal::Finish(error) => refuse_finish(error, out),
         CallRefusal::Cancellation(error) => refuse_cancel(error, out),
+        CallRefusal::Declaration(error) => refuse_late_declaration(error, out),
     }
 }
 
