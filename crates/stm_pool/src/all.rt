@@ -47,7 +47,7 @@ fn work_all<R: Threads + Sync>(
     );
 }
 
-/// Evaluates the jobs by at most so many threads on a store that has the variables of their blocks,
+/// Evaluates the jobs by at most `workers` threads on a store that has the variables of their blocks,
 /// and answers in the order of the jobs. Where memory runs out for the list of the answers, the
 /// jobs are handed back before any of them is evaluated; where a thread can't be started, the
 /// caller's thread does its share. Both branches of an `orElse` run at once, in threads of their

@@ -59,7 +59,7 @@ fn closed<L: Ledger>(
     }
 }
 
-/// The end of a storm of so many clients, when its threads are joined. Where a thread gave nothing
+/// The end of a storm of `clients` clients, when its threads are joined. Where a thread gave nothing
 /// back, memory ran out.
 fn end_of<L: Ledger>(
     alloc: Global,
@@ -106,7 +106,7 @@ fn storm_with<L: Ledger + Send + Sync, R: Threads + Wait + Sync>(
     end_of(alloc, shared, returned, clients)
 }
 
-/// Opens a desk with the variables of a table and room for so many events; does what each section
+/// Opens a desk with the variables of a table and room for `max_events` events; does what each section
 /// says, in a thread of its own, while the workers, each in a thread of its own, evaluate what is
 /// queued; then closes the desk. `levels` is how deep the workers evaluate both branches of an
 /// `orElse` at once.
