@@ -16,7 +16,8 @@ loop-place-preserved c =
     none_next c.args.self.now c.loop-place.place c.kind_at.result c.args.kind c.loop-place.invariant c.kind_at.ensures (sym c.refers_to.ensures ∙ c.if-refers_to.false)
 
 pub returns : goal.returns
-returns c =
-    (λ e. absurd (false≢true e),
-    λ h. absurd
-    (nowhere_held c.args.self.now c.args.kind c.if-kind-eq0.false (none_at_all c.args.self.now c.loop-place.place c.args.kind (let e = c.len-place-end.ensures.len in omega (arith, e, c.loop-place-test.false)) c.loop-place.invariant) h))
+returns c = (
+  λ e. absurd (false≢true e),
+  λ h. absurd
+      (nowhere_held c.args.self.now c.args.kind c.if-kind-eq0.false (none_at_all c.args.self.now c.loop-place.place c.args.kind (let e = c.len-place-end.ensures.len in omega (arith, e, c.loop-place-test.false)) c.loop-place.invariant) h),
+)
