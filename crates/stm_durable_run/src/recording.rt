@@ -197,8 +197,8 @@ fn recording_format<D: Device>(desk: &OpenDesk, file: &HistoryFile<D>) -> u32
     }
 }
 
-/// Writes the whole history of a desk anew, in the format in which variables are declared, to a new file that takes the place of the
-/// old one. How many events it has.
+/// Writes the whole history of a desk, in the format in which variables are declared, to a new file that takes the place of the old
+/// one. How many events it has.
 #[tactic(auto, using(stm_journal::proofs::Faults::may_fail))]
 fn record_anew<D: Replace + Drop>(
     alloc: Global,
@@ -229,7 +229,7 @@ fn record_anew<D: Replace + Drop>(
 }
 
 /// Records the events of an open desk that its file doesn't have. How many it then has. If one declares a variable and the file is in
-/// a format in which none can, the history is written anew.
+/// a format in which none can, the whole history is written to a new file.
 fn record_open<D: Replace + Drop>(
     alloc: Global,
     desk: &OpenDesk,

@@ -271,8 +271,8 @@ fn run_begun<T: Threads + Sync, R: Read, W: Write, D: Replace + Drop, L: Ledger>
 /// as soon as 64 KiB are held. Events are recorded in batches of at most 4,096; an event whose line has more than 1 MiB is
 /// refused as `JournalError::TooLong`. After a fault of the journal the file has to be opened again.
 ///
-/// If an event declares a variable and the file is in a format in which none can, the history is written anew, to a new file that takes
-/// the place of the old one: so once at most.
+/// If an event declares a variable and the file is in a format in which none can, the whole history is written to a new file that
+/// takes the place of the old one: so once at most.
 ///
 /// At a checkpoint a new file takes the place of the old one at once. A line asks for a checkpoint, or one comes by itself after a
 /// line that adds an event, once the history has `checkpoint_every` events. If the file refuses it, the run goes on in the old file: the

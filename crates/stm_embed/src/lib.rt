@@ -76,7 +76,7 @@ fn make(alloc: Global, seed: Seed, max_events: u32, desk: &mut Room) -> bool
 /// whether there was memory for it. Names of variables will be looked up under the seed that is always the same.
 #[unsafe(no_mangle)]
 pub extern "C" fn stmdesk_new(alloc: Global, max_events: u32, desk: &mut Room) -> bool
-    // There is a new console behind the pointer.
+    // The pointer is to a new console.
     ensures made { IsTrue result → IsSomeAnd desk.new.embedded (λ e. IsNew max_events e) }
     // Or the variable is as it was.
     ensures same { result ≡ false → desk.new ≡ desk.old }
@@ -92,7 +92,7 @@ pub extern "C" fn stmdesk_new_seeded(
     seed: &CallersSeed,
     desk: &mut Room,
 ) -> bool
-    // There is a new console behind the pointer.
+    // The pointer is to a new console.
     ensures made { IsTrue result → IsSomeAnd desk.new.embedded (λ e. IsNew max_events e) }
     // Or the variable is as it was.
     ensures same { result ≡ false → desk.new ≡ desk.old }

@@ -53,7 +53,7 @@ pub trait Replace: Device {
         ensures refused_time { OnRefused result (TakesTime Self.disk (Self.disk.may_leave self.new) self.old self.new) }
         ensures fault { FailsOnlyByDisk Self.disk self.old self.new (journal_result result) };
 
-    /// Reports to whom the system reports errors why no file has taken the place of this one, unless it has reported that since one did.
+    /// Reports on standard error why no file has taken the place of this one, unless that was reported since one did.
     fn report(&mut self, error: JournalError)
         ensures { IsTrue Self.disk.is_honest → self.new ≡ self.old };
 }
