@@ -34,6 +34,7 @@ impl Wanted {
             history: self.history,
             all: self.all,
             allow_throws: self.allow_throws,
+            trace: false,
         }
     }
 }

@@ -93,7 +93,7 @@ search_command = with_rule (with_rule (with_rule (new_app (codes "explore"))
 
 -- `explore` with its options
 abbrev pub explore_command : App
-explore_command = with_rule search_command (flag_option (codes "allow-throws"))
+explore_command = with_rule (with_rule search_command (flag_option (codes "allow-throws"))) (flag_option (codes "trace"))
 
 -- `check` with its option
 abbrev pub check_command : App
@@ -236,6 +236,7 @@ explore_options_said rows = record {
   history = flag_said (codes "history") rows;
   all = flag_said (codes "all") rows;
   allow_throws = flag_said (codes "allow-throws") rows;
+  trace = flag_said (codes "trace") rows;
 }
 
 -- a check, with what would be accepted instead if that is said

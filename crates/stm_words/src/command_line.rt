@@ -151,8 +151,8 @@ Example:
   events 3
   replay ok
 
-For a script in a file, run `stmdesk storm < FILE`. If a line is wrong, standard error has `stmdesk: script line N`, nothing is
-printed, and the status is 1. With `replay failed` the status is 3. If clients use the same variables, what is printed may
+For a script in a file, run `stmdesk storm < FILE`. If a line is wrong, standard error has `stmdesk: script line N` and why, nothing
+is printed, and the status is 1. With `replay failed` the status is 3. If clients use the same variables, what is printed may
 depend on which thread comes first. The number of an option may begin with `+` or with zeros.
 
 docs/STORM.md describes scripts in full.";
@@ -187,8 +187,9 @@ Example:
   cells 1
   right
 
-Statuses: 0 right, 1 a line is wrong (standard error has `stmdesk: script line N`), 3 a fault or incomplete. With `--history`
-the history of the order is printed instead, as `stmdesk check` and tools/timeline read it; without a fault nothing is.
+Statuses: 0 right, 1 a line is wrong (standard error has `stmdesk: script line N` and why), 3 a fault or incomplete. With `--history`
+the history of the order is printed instead, as `stmdesk check` and tools/timeline read it; without a fault nothing is. After `right`
+standard error has a line `stmdesk: warning: line L: ..` for each line that can't matter.
 
 docs/EXPLORE.md describes explorations in full.";
 
@@ -225,6 +226,8 @@ const HISTORY: &str = "Prints the history of the fault instead";
 const ALL: &str = "Explores every state, and leaves no client for later";
 
 const ALLOW_THROWS: &str = "Takes no throw of a block for a fault";
+
+const TRACE: &str = "Prints after a fault what each step of its order does, and the last store";
 
 const JOURNAL: &str = "Keeps the history in FILE, and goes on from what is in it";
 
@@ -412,7 +415,8 @@ fn explore_words<'a>(alloc: Global) -> Result<Command<'a>, AllocError>
     ensures local { IfOk result (λ c. (fields_of c).has_globals ≡ false) }
 {
     let allow_throws = flag_option(alloc, "allow-throws", ALLOW_THROWS);
-    search_words(alloc)?.arg(allow_throws)
+    let trace = flag_option(alloc, "trace", TRACE);
+    search_words(alloc)?.arg(allow_throws)?.arg(trace)
 }
 
 /// The program with its version and the commands that take the options of a run: `run`, which is the default, and `storm`.
@@ -560,6 +564,7 @@ fn explore_options_of(matches: &ArgMatches) -> ExploreOptions
         history: flag_of(matches, "history"),
         all: flag_of(matches, "all"),
         allow_throws: flag_of(matches, "allow-throws"),
+        trace: flag_of(matches, "trace"),
     }
 }
 
