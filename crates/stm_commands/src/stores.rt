@@ -63,6 +63,7 @@ pub struct Stores {
 }
 
 impl Stores {
+    /// No places, and a look at the next event or job.
     pub fn new(alloc: Global) -> Stores {
         Stores {
             places: Vec::new(alloc),

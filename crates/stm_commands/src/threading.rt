@@ -15,6 +15,7 @@ pub struct Threading {
 }
 
 impl Threading {
+    /// Jobs by this many threads, with branches evaluated at once to this depth.
     pub fn new(workers: u32, levels: u32) -> Threading
         requires some_worker { 0 < workers }
         requires few_workers { workers ≤ MAX_WORKERS }

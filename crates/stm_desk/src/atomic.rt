@@ -161,7 +161,7 @@ impl Desk {
     {
         say_typed(&block);
         let ticket = self.machine.next_ticket();
-        let told = block.share()?;
+        let shared = block.share()?;
         let installed = verdict.share()?;
         self.history.reserve(2)?;
         self.machine.submit_current(block, verdict, scratch)?;
@@ -171,7 +171,7 @@ impl Desk {
                 client,
                 what: What::Submitted {
                     ticket,
-                    block: told,
+                    block: shared,
                 },
             },
             Event {

@@ -69,13 +69,13 @@ impl Desk {
             Err(refusal) => return Err(refusal),
         }
         let alloc = *self.history.allocator();
-        let told = shared_name(alloc, name)?;
+        let shared = shared_name(alloc, name)?;
         self.history.reserve(1)?;
         let number = self.machine.declare(name, kind, value)?;
         self.history.push_reserved(Event {
             client,
             what: What::Declared {
-                name: told,
+                name: shared,
                 kind,
                 value,
             },

@@ -60,14 +60,14 @@ impl Desk {
             Err(refusal) => return Err(refusal),
         }
         say_typed(&block);
-        let told = block.share()?;
+        let shared = block.share()?;
         self.history.reserve(1)?;
         let ticket = self.machine.submit(block)?;
         self.history.push_reserved(Event {
             client,
             what: What::Submitted {
                 ticket,
-                block: told,
+                block: shared,
             },
         });
         Ok(ticket)

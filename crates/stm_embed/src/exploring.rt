@@ -26,6 +26,7 @@ pub struct Wanted {
 }
 
 impl Wanted {
+    /// The same options, as the exploration takes them.
     pub fn options(&self) -> ExploreOptions
         ensures { result ≡ explore_options self.now }
     {

@@ -39,7 +39,7 @@ pub fn block_of(alloc: Global, known: &Names, text: &str) -> Result<Option<Share
     }
 }
 
-// Any value is in range, by its type.
+/// Any value is in range, by its type.
 pub fn value_in_range(value: Value)
     ensures { FitsValue value }
 {
@@ -51,12 +51,12 @@ pub fn value_in_range(value: Value)
     }
 }
 
-// So is any number.
+/// Any number is in range, by its type.
 pub fn number_in_range(number: u32)
     ensures { Is32Bit number }
 {}
 
-// So is each variable and each value of a list of writes.
+/// Each variable and each value of a list of writes is in range.
 pub fn writes_in_range(writes: &[(u32, Value)])
     ensures { FitWrites writes.now }
 {
@@ -67,7 +67,7 @@ pub fn writes_in_range(writes: &[(u32, Value)])
     }
 }
 
-// So is each number of a list.
+/// Each number of a list is in range.
 pub fn numbers_in_range(numbers: &[u32])
     ensures { FitNumbers numbers.now }
 {

@@ -55,6 +55,7 @@ fn send_reference<S: Serializer>(key: &str, number: u32, out: &mut S) -> Result<
     out.end_map()
 }
 
+/// Writes a value as JSON.
 pub fn send_value<S: Serializer>(value: Value, out: &mut S) -> Result<(), S::Error>
     ensures { OnOk result (SendsValue (value_data value) (S.written out.old) (S.written out.new)) }
 {
@@ -76,6 +77,7 @@ fn send_write<S: Serializer>(write: (u32, Value), out: &mut S) -> Result<(), S::
     out.end_seq()
 }
 
+/// Writes a type as JSON: its text.
 pub fn send_type<S: Serializer>(alloc: Global, kind: Ty, out: &mut S) -> Result<(), S::Error>
     ensures { OnOk result (SendsValue (string (text_of_type kind))
         (S.written out.old) (S.written out.new)) }

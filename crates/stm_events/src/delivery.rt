@@ -27,6 +27,7 @@ impl Model for Delivery {
 }
 
 impl Delivery {
+    /// A delivery that brought these reads and this verdict.
     pub fn new(reads: Vec<(u32, Value)>, verdict: SharedVerdict, stale: bool) -> Delivery
         ensures { result ≡ record { reads = reads.items; verdict = verdict; stale = stale } }
     {
@@ -44,6 +45,7 @@ impl Delivery {
         self.reads.as_slice()
     }
 
+    /// The verdict that it brought.
     pub fn verdict(&self) -> &SharedVerdict
         ensures { result.now ≡ self.now.verdict }
     {

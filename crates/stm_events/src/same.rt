@@ -6,6 +6,7 @@ use crate::event::{Event, What};
 use crate::tickets::Tickets;
 use stm_check::SharedBlock;
 
+/// Whether two lists of numbers are equal.
 pub fn same_numbers(one: &[u32], other: &[u32]) -> bool
     ensures { IsTrue result ↔ (one.now ≡ other.now) }
 {

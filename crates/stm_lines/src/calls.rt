@@ -19,6 +19,7 @@ pub struct Calls<'a, R, L: Ledger> {
 }
 
 impl<'a, R: Read, L: Ledger> Calls<'a, R, L> {
+    /// All calls of a reader, each counted among the steps.
     pub fn new(reader: &'a mut R, steps: &'a mut Steps<L>) -> Calls<'a, R, L>
         ensures same_reader { result.reader.ghost_name ≡ reader.entry.ghost_name }
         ensures same_steps { result.steps.ghost_name ≡ steps.entry.ghost_name }

@@ -38,6 +38,7 @@ impl Model for Chunk {
 }
 
 impl Chunk {
+    /// No bytes.
     pub fn new() -> Chunk
         ensures { result ≡ [] }
     {

@@ -179,6 +179,7 @@ pub struct LineReader {
 }
 
 impl LineReader {
+    /// A reader of lines that has read no byte.
     pub fn new(alloc: Global) -> LineReader
         ensures { result.chunk ≡ [] }
     {

@@ -195,6 +195,7 @@ impl Checkpoint {
             && ticket < self.next
     }
 
+    /// The store of the checkpoint.
     pub fn store(&self) -> &Store
         ensures { result.now ≡ self.now.store }
     {

@@ -23,6 +23,7 @@ impl Model for EventLimit {
 }
 
 impl EventLimit {
+    /// A limit of this many events.
     pub fn new(events: u32) -> EventLimit
         requires { events ≤ max_events }
         ensures { result ≡ events }
@@ -30,6 +31,7 @@ impl EventLimit {
         EventLimit { events }
     }
 
+    /// How many events there may be.
     pub fn events(&self) -> u32
         ensures events { result ≡ self.now }
         ensures few { self.now ≤ max_events }

@@ -51,6 +51,7 @@ impl Drop for Session {
 }
 
 impl Session {
+    /// A run that has read no line, on a desk of no variables.
     pub fn new(alloc: Global, seed: Seed, limit: EventLimit, threading: Threading) -> Session
         ensures { result.console ≡ initial_console limit }
     {

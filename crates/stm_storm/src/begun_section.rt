@@ -31,6 +31,7 @@ impl Model for BegunSection {
 }
 
 impl BegunSection {
+    /// A section without a task.
     pub fn new(alloc: Global) -> BegunSection
         ensures { result ≡ record { tasks = []; submissions = 0 } }
     {

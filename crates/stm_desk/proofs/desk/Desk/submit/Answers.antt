@@ -16,7 +16,7 @@ submit-requires c =
 pub invariant_of-self-2 : goal.invariant_of-self-2
 invariant_of-self-2 c =
     let r = subst (λ (d : DeskView). is_full d ≡ false) (sym c.self.view_is) c.in-Ok.ensures.room in
-    rw (c.push_reserved.ensures.items, c.in_ok-reserve.ensures.items, c.in_ok-told.ensures)
+    rw (c.push_reserved.ensures.items, c.in_ok-reserve.ensures.items, c.in_ok-shared.ensures)
     (kept_move _ _ _ _ _ c.self.invariant c.args.client _ _ c.requires r c.say_typed.ensures c.in_ok-ticket.ensures.moved)
 
 pub returns-in-Err-clause-refused : goal.returns-in-Err-clause-refused
