@@ -360,7 +360,7 @@ class Journals(InThreads):
             ("{}\n", "bad header"),
             ("a letter\n", "bad header"),
             ('{"format":3,"va', "bad header"),
-            (header.replace("3", "2"), "format 2; a journal has format 3 or 4"),
+            (header.replace("3", "2"), "format 2; a journal has format 3, 4 or 5"),
             (header + "x" * ((1 << 20) + 1), "more than 1048576 bytes after the last whole line"),
         ):
             self.write(text)

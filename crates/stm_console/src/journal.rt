@@ -80,7 +80,7 @@ fn report_load<E: Write>(name: &str, fault: LoadFault, errors: &mut E) -> u8
         LoadFault::OldFormat(format) => {
             let _ = writeln!(
                 errors,
-                "stmdesk: {name}: format {format}; a journal has format 3 or 4"
+                "stmdesk: {name}: format {format}; a journal has format 3, 4 or 5"
             );
             NOT_RIGHT
         }
