@@ -198,12 +198,16 @@ enum {
     STMDESK_NO_ROOM = 9
 };
 
-/* What is asked of an exploration: the options of `./stmdesk explore`. */
+/*
+** What is asked of an exploration: the options of `./stmdesk explore`. Version 0.14.0 has no `trace`, and padding in its place: compile
+** again what was compiled with its header.
+*/
 typedef struct {
     uint32_t max_states; /* how many states are kept at most; `./stmdesk explore` keeps 1,000,000. With 0 none is looked at */
     bool history;        /* whether the text is the history of the fault, and empty if there is none */
     bool all;            /* whether each state is met and counted, also those that can't matter */
     bool allow_throws;   /* whether no throw of a block is a fault */
+    bool trace;          /* whether after a fault the text says what each step of its order does, and the last store; not with `history` */
 } stmdesk_explore_options;
 
 /* What an exploration found besides its text. stmdesk_explore sets both, whatever its status is. */

@@ -23,6 +23,8 @@ pub struct Wanted {
     pub all: bool,
     /// Whether every block may throw.
     pub allow_throws: bool,
+    /// Whether what each step of a fault's order does is written, too, and the last store.
+    pub trace: bool,
 }
 
 impl Wanted {
@@ -35,7 +37,7 @@ impl Wanted {
             history: self.history,
             all: self.all,
             allow_throws: self.allow_throws,
-            trace: false,
+            trace: self.trace,
         }
     }
 }
