@@ -41,7 +41,7 @@ from ._errors import (
     BadAnswer, Cancelled, DeskClosed, DeskError, Ended, JournalError, OutcomeUnknown, OutOfMemory, Refused, ScriptRefused, Stopped, Thrown,
     TimedOut,
 )  # fmt: skip
-from ._explore import ClientAt, ClientState, Exploration, LineWarning, Outcome, explore
+from ._explore import ClientAt, ClientState, Exploration, LineWarning, Outcome, TraceStep, explore
 from ._local import find_library
 from ._program import find_program
 from ._values import (
@@ -58,7 +58,8 @@ __all__ = [
     "FinalStore", "Finding",
     "Finish", "Finished", "FinishedThrows", "Job", "JournalError", "LineWarning", "New", "NewRef", "OutOfMemory", "Outcome", "OutcomeUnknown", "Ready", "Reason",
     "Ref", "Refused", "ScriptRefused", "Settled", "Stale", "StaleBefore", "StaleBy", "Status", "Stopped", "Store", "Submission", "Thrown", "Throws",
-    "TimedOut", "Value", "Verdict", "Waiting", "Waits", "check", "connect", "explore", "find_library", "find_program", "or_else",
+    "TimedOut", "TraceStep", "Value", "Verdict", "Waiting", "Waits", "check", "connect", "explore", "find_library", "find_program",
+    "or_else",
 ]  # fmt: skip
 
 for _name in __all__:

@@ -29,6 +29,7 @@ _FOUND = re.compile(
 )
 _STORE = re.compile(r"(?:#.*\n)*cells \d+\n")
 _CHOICE = re.compile(r"chose line (\d+) (.+)")
+_STEP = re.compile(r"(?m)^step (\d+) client (\d+) line (\d+) (.+)$")
 _CLIENT = re.compile(r"client (\d+) line (\d+) (waits|ready|refused|fails)(?: (.+))?")
 _WARNING = re.compile(r"(?m)^stmdesk: warning: line (\d+): (.+)$")
 _DECLARED = re.compile(r"(?m)^[ \t\r]*tvar[ \t\r]+([a-z][A-Za-z0-9_']*)(?:[ \t\r]*:[ \t\r]*([^=\n]*[^=\s]))?")
@@ -61,6 +62,21 @@ class LineWarning:
     [LineWarning(line=3, text='no `finish` and no `cancel` names this block')]
     """
 
+    line: int
+    text: str
+
+
+@dataclass(frozen=True)
+class TraceStep:
+    """What a step of the order that leads to a fault did: its number, counted from 1, its client, the line of the step, and as `text` the
+    rest of the line that `explore --trace` prints (docs/EXPLORE.md, "Output"), such as the block and what it wrote.
+
+    >>> explore("tvar x : Int = 0\\nclient\\nsubmit writeTVar x 5\\nfinish 1\\nsubmit retry\\nfinish 2").trace()
+    [TraceStep(number=1, client=0, line=4, text='writeTVar x 5 writes #0=5')]
+    """
+
+    number: int
+    client: int
     line: int
     text: str
 
@@ -135,9 +151,35 @@ class Exploration:
         {"block":"retry","client":0,"event":"submitted","ticket":1}
         {"client":1,"event":"installed","ticket":1,"verdict":"blocks"}
         """
+        return None if self.order is None else self._more("history")
+
+    def trace(self) -> list[TraceStep] | None:
+        """What each step of the order that leads to the fault did; None if there is no fault.
+
+        It explores once more. Raises `Ended` if the program ends otherwise, for example since it is out of memory.
+
+        >>> found = explore('''
+        ...     tvar x : Int = 0
+        ...     client
+        ...     submit do { a <- readTVar x; writeTVar x (a + 1) }
+        ...     finish 1
+        ...     expect x 2
+        ... ''')
+        >>> for step in found.trace():
+        ...     print(step.number, step.client, step.line, step.text)
+        1 0 5 do { a <- readTVar x; writeTVar x (a + 1) } writes #0=1
+        """
         if self.order is None:
             return None
-        status, printed, said = _explored(self._by, self.script, history=True)
+        printed = self._more("trace")
+        steps = [TraceStep(int(number), int(client), int(line), text) for number, client, line, text in _STEP.findall(printed)]
+        if [(it.number, it.client) for it in steps] != [*enumerate(self.order, 1)]:
+            raise BadAnswer("explore", printed)
+        return steps
+
+    def _more(self, what: Literal["history", "trace"]) -> str:
+        """Explores once more, and returns what is printed with this option."""
+        status, printed, said = _explored(self._by, self.script, what)
         if status != 3 or not printed:
             raise Ended(status, said)
         return printed
@@ -222,11 +264,11 @@ def _asked(
     return [path, "explore", *options]
 
 
-def _explored(by: list[str] | tuple[str, int, bool, bool], script: str, history: bool = False) -> tuple[int, str, str]:
-    """The exit status of an exploration, and what is written to the two outputs; with `history` the history of the fault."""
+def _explored(by: list[str] | tuple[str, int, bool, bool], script: str, more: Literal["", "history", "trace"] = "") -> tuple[int, str, str]:
+    """The exit status of an exploration, and what it writes to the two outputs, with `more` the history or the trace of a fault."""
     if isinstance(by, list):
-        return run_once([*by, "--history"] if history else by, script)
-    return explore_once(*by, script, history)
+        return run_once([*by, f"--{more}"] if more else by, script)
+    return explore_once(*by, script, more)
 
 
 def _read(printed: str, said: str, script: str, by: list[str] | tuple[str, int, bool, bool]) -> Exploration:

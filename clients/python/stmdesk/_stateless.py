@@ -26,7 +26,7 @@ class _Checked(ctypes.Structure):
 
 
 class _ExploreOptions(ctypes.Structure):
-    _fields_ = [("max_states", ctypes.c_uint32), ("history", ctypes.c_bool), ("all", ctypes.c_bool), ("allow_throws", ctypes.c_bool)]
+    _fields_ = [("max_states", ctypes.c_uint32), *((name, ctypes.c_bool) for name in ("history", "all", "allow_throws", "trace"))]
 
 
 class _Explored(ctypes.Structure):
@@ -82,12 +82,11 @@ def check_once(library: str, history: bytes) -> tuple[str, int | None]:
     return f"{printed[status]}\n", line
 
 
-def explore_once(
-    library: str, max_states: int, all: bool, allow_throws: bool, script: str, history: bool = False
-) -> tuple[int, str, str]:
-    """The exit status of the program that explores this script, and what it writes to its two outputs. Raises `OutOfMemory`."""
+def explore_once(library: str, max_states: int, all: bool, allow_throws: bool, script: str, more: str = "") -> tuple[int, str, str]:
+    """The exit status of the program that explores this script, and what it writes to its two outputs. `more` is "history" or "trace" if
+    that is wanted. Raises `OutOfMemory`."""
     functions, lines = _load(library), script.encode()
-    options, text, explored = _ExploreOptions(max_states, history, all, allow_throws), _Handle(), _Explored()
+    options, text, explored = _ExploreOptions(max_states, more == "history", all, allow_throws, more == "trace"), _Handle(), _Explored()
     status = functions.explore(lines, len(lines), ctypes.byref(options), ctypes.byref(text), ctypes.byref(explored))
     if status == NO_MEMORY:
         raise OutOfMemory("an exploration")

@@ -10,7 +10,9 @@ import time
 from functools import partial
 from unittest import mock
 
-from stmdesk import BadAnswer, ClientAt, Ended, FinalCell, LineWarning, OutOfMemory, Ref, ScriptRefused, _stateless, check, explore
+from stmdesk import (
+    BadAnswer, ClientAt, Ended, FinalCell, LineWarning, OutOfMemory, Ref, ScriptRefused, TraceStep, _stateless, check, explore,
+)  # fmt: skip
 from tests.common import SECONDS, X, OnProgram, library, needs_library, needs_process, program
 
 LOST = """\
@@ -238,6 +240,44 @@ class Explorations(OnProgram):
             history = self.explore(script).history()
             done = subprocess.run([program, "check"], input=history, stdout=subprocess.PIPE, text=True, timeout=SECONDS)
             self.assertEqual(done.stdout, f"legal {events} events\n")
+
+    def test_traces(self):
+        script = "tvar x : Int = 0\nclient\nexpect x 0\nchoose x (-1) 1\nassert return True\nsubmit throw 4\nfinish 1\nthrows 1\n"
+        script += "submit do { n <- newTVar 7; writeTVar x 3; return n }\nfinish 2\n"
+        found, done = self.explore(script + "expect x 1\n"), "do { n <- newTVar 7; writeTVar x 3; return n } writes #0=3 news 7"
+        self.assert_is((found.outcome, found.line), ("missed", 11))
+        steps = [(3, "expect #0=0"), (4, "chooses x (-1)"), (5, "assert return True"), (7, "throw 4 throws 4"), (10, done)]
+        self.assert_is(found.trace(), [TraceStep(number, 0, *it) for number, it in enumerate(steps, 1)])
+        self.assert_is(pickle.loads(pickle.dumps(found)).trace(), found.trace())
+        self.assert_is(self.explore("tvar x : Int = 0\nclient\nexpect x 1\n").trace(), [])
+        self.assertIs(self.explore(script).trace(), None)
+        self.assertIs(self.explore(script, max_states=1).trace(), None)
+        lost = self.explore(LOST)
+        self.assertEqual(tuple(it.client for it in lost.trace()), lost.order)
+        thrown = script.replace("throws 1\n", "") + "expect x 1\n"
+        self.assert_is(self.explore(thrown).trace()[2:], [TraceStep(3, 0, 5, "assert return True")])
+        self.assert_is(self.explore(thrown, allow_throws=True, all=True).trace()[3:4], [TraceStep(4, 0, 7, "throw 4 throws 4")])
+
+    @needs_process("a program that stands in")
+    def test_a_program_without_traces(self):
+        answer = "states 2 steps 1\\nended 0\\ndeadlock\\norder 1\\n"
+        another = f"printf '{answer}step 1 client 0 line 3 x\\n'"
+        ends = [("echo no >&2; exit 2", Ended, "status 2: no"), (another, BadAnswer, "step 1"), ("true", Ended, "status 3")]
+        for said, error, regex in ends:
+            old = self.stand_in(f"case $* in *--trace) {said};; *) printf '{answer}';; esac; exit 3")
+            with self.assertRaisesRegex(error, regex):
+                explore("client", program=old).trace()
+
+    @needs_library
+    def test_a_library_without_traces(self):
+        functions, found = _stateless._load(library), self.explore(LOST)
+
+        def explored(script, length, options, *more):
+            options._obj.trace = False
+            return functions.explore(script, length, options, *more)
+
+        with mock.patch.object(_stateless, "_load", lambda path: functions._replace(explore=explored)), self.assertRaises(BadAnswer):
+            found.trace()
 
     @needs_process("the reason of a refusal")
     def test_a_refused_line(self):
