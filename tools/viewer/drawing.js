@@ -161,8 +161,9 @@ function inside(c, life, i, left, right, y) {
   let text = prefix;
   if (what == "stale") text += causes(life, i).map(changeText).join(", ");
   else if (what != "new") text += verdictText(life.verdict[i], first);
+  else if (S.by == "client") text += oneLine(blockOf(life)).slice(0, 200);
   if (what == "stale" && c.measureText(text).width > free) text = prefix + causes(life, i).map(it => nameOf(it[0])).join(" ");
-  text = shorten(c, text, free);
+  text = shorten(c, text, free) || shorten(c, prefix, free);
   if (!text) return;
   if (what == "stale") { c.fillStyle = color.ground; c.fillRect(left + 9, y - 7, c.measureText(text).width + 6, 14); }
   c.fillStyle = what == "commits" || what == "throws" ? color.on : color.ink;

@@ -237,7 +237,7 @@ function remember() {
     const said = [`event=${S.at}`, `events=${Math.ceil(S.from)}..${Math.floor(S.to)}`];
     if (S.life >= 0) said.push(`ticket=${lives[S.life].ticket}`);
     if (S.variable >= 0) said.push(`variable=${encodeURIComponent(nameOf(S.variable))}`);
-    if (S.by != "ticket") said.push(`by=${S.by}`);
+    if (S.by != firstBy) said.push(`by=${S.by}`);
     try { history.replaceState(null, "", "#" + said.join("&")); } catch { /* not in every browser for a file */ }
   }, 400);
 }
@@ -255,7 +255,7 @@ function begin() {
   if (E > (narrow ? 40 : 120)) view(0.5, narrow ? 24.5 : 60.5);
   if (events) view(events[1] - 0.5, +events[2] + 0.5);
   theme(asked.get("theme") || kept || (system.matches ? "dark" : "light"));
-  if (["client", "block"].includes(asked.get("by"))) S.by = asked.get("by");
+  if (["ticket", "client", "block"].includes(asked.get("by"))) S.by = asked.get("by");
   draw();
   if (asked.has("event")) go(+asked.get("event"), !events);
   const life = asked.has("ticket") ? lives.findIndex(it => it.ticket == asked.get("ticket")) : -1;

@@ -4,7 +4,8 @@ function eventHtml(e) {
   const before = data.waiting.length ? ` ${count(data.waiting.length, "block")} already wait${data.waiting.length == 1 ? "s" : ""}.` : "";
   if (!e) return `<h2>Before the first event</h2><p>The store has ${count(data.vars.filter(it => it[0] !== null).length, "declared variable")}.${before}</p>${wholeHtml()}`;
   const index = lifeOf[e], life = lives[index], kind = kindOf(e), client = data.client[e - 1] || 0;
-  let text = `<h2>Event ${e} <span class="muted">line ${1 + data.vars.length + data.waiting.length + e}, client ${client}</span></h2>`;
+  const who = client == data.worker ? `client ${client} for client ${life.client}` : `client ${client}`;
+  let text = `<h2>Event ${e} <span class="muted">line ${1 + data.vars.length + data.waiting.length + e}, ${who}</span></h2>`;
   if (kind == "d") {
     const [name, type, init] = data.declared[argOf(e)], number = numbers.get(name);
     return text + `<p>${variableLink(number)} is <b>declared</b>, as #${number} : ${esc(type)} = ${valueHtml(init)}.</p>`;

@@ -2,10 +2,12 @@
 
 const $ = id => document.getElementById(id);
 const chart = document.querySelector("#chart canvas"), over = document.querySelector("#over canvas");
+// Where one client evaluates for all others, as in the history of an exploration, the lanes are those of the clients at first.
+const firstBy = data.worker < 0 ? "ticket" : "client";
 // The window, the event, what is chosen, and the filters.
 const S = {
   from: 0.5, to: E + 0.5, scroll: 0, at: 0, life: -1, variable: -1, hover: null,
-  by: "ticket", tab: "event", low: "store", isStore: false, text: "", name: "", state: "",
+  by: firstBy, tab: "event", low: "store", isStore: false, text: "", name: "", state: "",
 };
 const L = {width: 0, height: 0, gutter: 0, lane: 24, axis: 26, lanes: [], place: null, perEvent: 1};
 const X = e => L.gutter + (e - S.from) * L.perEvent;
