@@ -55,6 +55,13 @@ impl BegunSection {
         self.tasks.len()
     }
 
+    /// The tasks.
+    pub fn as_slice(&self) -> &[Task]
+        ensures { result.now ≡ self.now.tasks }
+    {
+        self.tasks.as_slice()
+    }
+
     /// One task more, which is no submission.
     pub fn push(&mut self, task: Task) -> Result<(), NoMemory>
         ensures { OnOk result
