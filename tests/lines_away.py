@@ -1,7 +1,8 @@
 """The scripts of examples/explore in which nothing is wrong, without one of their steps: then something is wrong, or REASONS says why not.
 
 A step that is taken away is a line `finish` or `choose`, which changes the store; the lines that check it would only let more pass. So a
-script that is right because it does too little, or checks too little, is noticed. A reason that isn't needed is an error, too.
+script that is right because it does too little, or checks too little, is noticed. A reason that isn't needed is an error, too. A section
+that has no step left can't repeat, so its script is refused, which is as good as a fault.
 """
 
 import pathlib
@@ -13,6 +14,7 @@ import transcript
 FOLDER = pathlib.Path(__file__).resolve().parent.parent / "examples" / "explore"
 STEP = re.compile(r"(finish|choose) ")
 FAULT = re.compile(r"(?m)^(deadlock$|(broken|missed|failed|threw) line )")
+NO_STEP = re.compile(r"(?m)^stmdesk: script line \d+: Argument$")
 LESS = "with one choice less there are fewer orders"
 REASONS = {  # by scripts, the numbers of lines without which nothing is wrong, and why
     "bounded_queue": {(19, 23): "the producers wait until one number is taken, and nobody waits until the other one is"},
@@ -50,7 +52,8 @@ def judge(program, lines, number, reason):
     """None, or what is wrong with what is found without the line of this number."""
     text = "".join(it + "\n" for at, it in enumerate(lines, 1) if at != number)
     done = subprocess.run([program, "explore"], input=text, capture_output=True, text=True, timeout=transcript.SECONDS)
-    if done.returncode == 3 and FAULT.search(done.stdout):
+    refused = done.returncode == 1 and "repeat" in lines and NO_STEP.search(done.stderr)
+    if refused or (done.returncode == 3 and FAULT.search(done.stdout)):
         return reason and f"something is wrong, so there is no need of the reason {reason!r}"
     if done.returncode == 0:
         return None if reason else f"nothing is wrong without `{lines[number - 1]}`, and there is no reason"
