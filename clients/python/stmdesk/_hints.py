@@ -169,6 +169,10 @@ def script_hint(reason: str, place: int | None, word: str, text: str, types: Map
     declared before, with their types."""
     if reason == "Argument" and word == "choose":
         return "`choose` takes a declared variable and 1 to 16 values of its type, parted by blanks, no two the same"
+    if reason == "Argument" and word == "repeat":
+        return "`repeat` stands alone, at the end of a section with a step: a `finish`, an `expect`, an `assert` or a `choose`"
+    if reason == "Late" and word not in ("tvar", "always", "never"):
+        return "`repeat` is the last line of its section"
     if reason == "Argument":
         return "`client` takes nothing" if word == "client" else f"`{word}` takes the number of a `submit` above it in its section, counted from 1"
     if word == "assert" and reason == "Mismatch" and place == 0:

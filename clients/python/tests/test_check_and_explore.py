@@ -336,6 +336,16 @@ class Explorations(OnProgram):
                 "choose x 1 1",
                 "hint: `choose` takes a declared variable and 1 to 16 values of its type, parted by blanks, no two the same",
             ),
+            "client\nsubmit retry\nrepeat\n": (
+                "line 5 of the script is refused: Argument",
+                "repeat",
+                "hint: `repeat` stands alone, at the end of a section with a step: a `finish`, an `expect`, an `assert` or a `choose`",
+            ),
+            "client\nexpect x 0\nrepeat\nexpect x 0\n": (
+                "line 6 of the script is refused: Late",
+                "expect x 0",
+                "hint: `repeat` is the last line of its section",
+            ),
             "client\ntvar y : Int = 0\n": (
                 "line 4 of the script is refused: Late",
                 "tvar y : Int = 0",
