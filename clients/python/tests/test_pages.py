@@ -77,6 +77,16 @@ class Pages(OnProgram):
         done = subprocess.run(command, capture_output=True, text=True, timeout=SECONDS)
         self.assertEqual((done.stdout, done.stderr), ((folder / "engine.out").read_text(), ""))
 
+    @needs_process("an example runs the program")
+    def test_who_waits(self):
+        folder = REPOSITORY / "examples" / "who_waits"
+        if not folder.exists():
+            self.skipTest("the package was copied without the examples")
+        command = [sys.executable, "-B", str(folder / "who_waits.py"), "--once"]
+        environment = {**os.environ, "STMDESK": program, "COLUMNS": "160"}
+        done = subprocess.run(command, capture_output=True, text=True, timeout=SECONDS, env=environment)
+        self.assertEqual((done.stdout, done.stderr), ((folder / "who_waits.out").read_text(), ""))
+
     def killed(self, command, *more):
         """Starts the command with a journal, and more words after it, again and again, and kills it at a random moment, until it ends by
         itself; after the fourth kill it is let be. Does so twice. Yields what it prints at last, the journal's path, and how often it was
