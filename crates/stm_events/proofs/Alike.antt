@@ -12,7 +12,7 @@ use Rattle.stm_check.specs.TypedBlock.{Block}
 use Rattle.stm_eval.specs.Laws.{In}
 use Rattle.stm_eval.proofs.FragmentsAndStores.{looked}
 use Rattle.stm_events.specs.declared.event.What.{What}
-use Rattle.stm_events.specs.declared.event.What.TheVariants.{Submitted, Installed, Finished, Cancelled, Declared as DeclaredLate}
+use Rattle.stm_events.specs.declared.event.What.TheVariants.{Submitted, Installed, Finished, Cancelled, Declared as DeclaredLate, Labelled}
 use Rattle.stm_events.specs.BlockStatus.{read_since_then}
 use Rattle.stm_events.specs.SlowDesk.{Since, Waiter, Slow, Standing, New, Stale, Current, under, verdict_on, looked_on, waking, intersects, is_stale_since, is_new_since, is_new, current_since, is_current, woken_more, after_writes, becomes_stale, find_waiter, without_waiter, with_delivery, delivered, stale_after, after, standing_since, weak_since}
 use Rattle.stm_events.specs.SlowSettle.{lowest}
@@ -276,6 +276,7 @@ alike_after s ws' (Finished t v n l) k h h' =
     alike_marks (waking s.rule s.store v) (without_waiter t s.waiters) (without_waiter t ws') (alike_without t s.waiters ws' k) (had_without t s.waiters h) (had_without t ws' h')
 alike_after s ws' (Cancelled t) k h h' = alike_without t s.waiters ws' k
 alike_after s ws' (DeclaredLate name kind value) k h h' = k
+alike_after s ws' (Labelled t label) k h h' = k
 
 -- ---- what is read off the list
 pub same_length : (ws ws' : List Waiter) → AreAlike ws ws' → length ws ≡ length ws'

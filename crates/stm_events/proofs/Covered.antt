@@ -8,7 +8,7 @@ use Rattle.stm_store.proofs.ApplyPreservesTyping.{covered_stay}
 use Rattle.stm_terms.specs.declared.verdicts.Verdict.{Verdict}
 use Rattle.stm_events.specs.declared.event.Event.{Event}
 use Rattle.stm_events.specs.declared.event.What.{What}
-use Rattle.stm_events.specs.declared.event.What.TheVariants.{Submitted, Installed, Finished, Cancelled, Declared as DeclaredLate}
+use Rattle.stm_events.specs.declared.event.What.TheVariants.{Submitted, Installed, Finished, Cancelled, Declared as DeclaredLate, Labelled}
 use Rattle.stm_events.specs.declared.staleness.StalenessRule.{StalenessRule}
 use Rattle.stm_events.specs.SlowDesk.{Waiter, Slow, declaration, waking, find_waiter, without_waiter, with_delivery, delivered, after_writes, after, Allows, initial_state, state_from, state_by, LegalFrom, IsLegalBy}
 use Rattle.stm_events.specs.Laws.{BlocksAreCovered}
@@ -49,6 +49,7 @@ covered_after s (Finished t v n l) c a =
     covered_marks (waking s.rule s.store v) (applied s.store v) (without_waiter t s.waiters) (covered_more s.store v (without_waiter t s.waiters) (covered_without t s.store s.waiters c))
 covered_after s (Cancelled t) c a = covered_without t s.store s.waiters c
 covered_after s (DeclaredLate name kind value) c a = covered_more s.store (declaration kind value) s.waiters c
+covered_after s (Labelled t label) c a = c
 
 pub covered_from : (s : Slow) (es : List Event) → LegalFrom s es → AreCovered s.store s.waiters → AreCovered (state_from s es).store (state_from s es).waiters
 covered_from s [] l c = c

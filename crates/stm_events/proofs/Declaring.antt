@@ -20,7 +20,7 @@ use Rattle.stm_eval.specs.Messages.{Agrees, Holds}
 use Rattle.stm_eval.proofs.FragmentsAndStores.{holds_agrees, holds_again}
 use Rattle.stm_events.specs.declared.event.Event.{Event}
 use Rattle.stm_events.specs.declared.event.What.{What}
-use Rattle.stm_events.specs.declared.event.What.TheVariants.{Submitted, Installed, Finished, Cancelled, Declared as DeclaredLate}
+use Rattle.stm_events.specs.declared.event.What.TheVariants.{Submitted, Installed, Finished, Cancelled, Declared as DeclaredLate, Labelled}
 use Rattle.stm_events.specs.declared.staleness.StalenessRule.TheVariants.{Written}
 use Rattle.stm_events.specs.Declaring.{DeclarationsChangeNothing, NamesStay}
 use Rattle.stm_events.specs.SlowDesk.{Slow, Waiter, declaration, under, verdict_on, standing, find_waiter, after, Allows, state_from}
@@ -59,6 +59,7 @@ longer_after s (Installed t v) = record { later = []; are = sym (append-nil s.na
 longer_after s (Finished t v n l) = record { later = []; are = sym (append-nil s.names) }
 longer_after s (Cancelled t) = record { later = []; are = sym (append-nil s.names) }
 longer_after s (DeclaredLate name kind value) = record { later = _; are = refl }
+longer_after s (Labelled t label) = record { later = []; are = sym (append-nil s.names) }
 
 longer_from : (s : Slow) (es : List Event) → IsLonger s.names (state_from s es).names
 longer_from s [] = record { later = []; are = sym (append-nil s.names) }

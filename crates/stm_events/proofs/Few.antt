@@ -5,7 +5,7 @@ use Rattle.std.proofs.lemmas.List.{length-map}
 use Rattle.stm_store.specs.declared.cell.Cell.{Cell}
 use Rattle.stm_events.specs.declared.event.Event.{Event}
 use Rattle.stm_events.specs.declared.event.What.{What}
-use Rattle.stm_events.specs.declared.event.What.TheVariants.{Submitted, Installed, Finished, Cancelled, Declared as DeclaredLate}
+use Rattle.stm_events.specs.declared.event.What.TheVariants.{Submitted, Installed, Finished, Cancelled, Declared as DeclaredLate, Labelled}
 use Rattle.stm_events.specs.SlowDesk.{Waiter, Slow, waking, without_waiter, delivered, with_delivery, after_writes, after, Allows, state_from, LegalFrom, max_waiting}
 
 less_by : (b : Bool) (w : Waiter) (ws vs : List Waiter) → length vs ≤ length ws → length (cond b ws (w ∷ vs)) ≤ suc (length ws)
@@ -30,6 +30,7 @@ few_after s (Installed t v) a h = let l = length_delivered t s.store s.waiters i
 few_after s (Finished t v n k) a h = let l = length-map (without_waiter t s.waiters) (after_writes (waking s.rule s.store v)) in let m = length_without t s.waiters in omega (arith, h, l, m)
 few_after s (Cancelled t) a h = let m = length_without t s.waiters in omega (arith, h, m)
 few_after s (DeclaredLate name kind value) a h = h
+few_after s (Labelled t label) a h = h
 
 pub few_from : (s : Slow) (es : List Event) → LegalFrom s es → length s.waiters ≤ max_waiting → length (state_from s es).waiters ≤ max_waiting
 few_from s [] l h = h

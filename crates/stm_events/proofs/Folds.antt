@@ -3,7 +3,7 @@ use Rattle.std.proofs.Common.{◌≡◌, ◌+◌, ◌≤◌, List, [], ◌∷◌
 use Rattle.stm_store.specs.Tables.{Declared}
 use Rattle.stm_events.specs.declared.event.Event.{Event}
 use Rattle.stm_events.specs.declared.event.What.{What}
-use Rattle.stm_events.specs.declared.event.What.TheVariants.{Submitted, Installed, Finished, Cancelled, Declared as DeclaredLate}
+use Rattle.stm_events.specs.declared.event.What.TheVariants.{Submitted, Installed, Finished, Cancelled, Declared as DeclaredLate, Labelled}
 use Rattle.stm_events.specs.declared.staleness.StalenessRule.{StalenessRule}
 use Rattle.stm_events.specs.SlowDesk.{Slow, after, AllowsEvent, initial_state, state_from, state_by, LegalFrom, IsLegalBy, max_events}
 
@@ -37,6 +37,7 @@ after-rule s (Installed t v) = refl
 after-rule s (Finished t v n l) = refl
 after-rule s (Cancelled t) = refl
 after-rule s (DeclaredLate name kind value) = refl
+after-rule s (Labelled t label) = refl
 
 pub state-rule : (s : Slow) (es : List Event) → (state_from s es).rule ≡ s.rule
 state-rule s [] = refl

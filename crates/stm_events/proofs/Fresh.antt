@@ -17,7 +17,7 @@ use Rattle.stm_eval.specs.Messages.{Agrees, Holds}
 use Rattle.stm_eval.proofs.FragmentsAndStores.{looked, holds_agrees, holds_again}
 use Rattle.stm_events.specs.declared.event.Event.{Event}
 use Rattle.stm_events.specs.declared.event.What.{What}
-use Rattle.stm_events.specs.declared.event.What.TheVariants.{Submitted, Installed, Finished, Cancelled, Declared as DeclaredLate}
+use Rattle.stm_events.specs.declared.event.What.TheVariants.{Submitted, Installed, Finished, Cancelled, Declared as DeclaredLate, Labelled}
 use Rattle.stm_events.specs.declared.staleness.StalenessRule.{StalenessRule}
 use Rattle.stm_events.specs.declared.staleness.StalenessRule.TheVariants.{Written}
 use Rattle.stm_events.specs.SlowDesk.{Since, Waiter, Slow, declaration, under, looked_on, waking, intersects, is_stale_since, find_waiter, without_waiter, with_delivery, delivered, woken_more, after_writes, after, initial_state, state_from, state_by}
@@ -71,6 +71,7 @@ fresh_after s (Installed t v) c = fresh_delivered t s.store s.waiters c
 fresh_after s (Finished t v n l) c = fresh_marks s.rule v s.store (without_waiter t s.waiters) (fresh_without t s.store s.waiters c)
 fresh_after s (Cancelled t) c = fresh_without t s.store s.waiters c
 fresh_after s (DeclaredLate name kind value) c = fresh_declared kind value s.store s.waiters c
+fresh_after s (Labelled t label) c = c
 
 pub fresh_from : (s : Slow) (es : List Event) → AreUnwoken s.store s.waiters → AreUnwoken (state_from s es).store (state_from s es).waiters
 fresh_from s [] c = c

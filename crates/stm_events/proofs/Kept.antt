@@ -9,7 +9,7 @@ use Rattle.stm_store.proofs.ApplyPreservesTyping.{covered_stay}
 use Rattle.stm_check.specs.TypedBlock.{Block}
 use Rattle.stm_events.specs.declared.event.Event.{Event}
 use Rattle.stm_events.specs.declared.event.What.{What}
-use Rattle.stm_events.specs.declared.event.What.TheVariants.{Submitted, Installed, Finished, Cancelled, Declared as DeclaredLate}
+use Rattle.stm_events.specs.declared.event.What.TheVariants.{Submitted, Installed, Finished, Cancelled, Declared as DeclaredLate, Labelled}
 use Rattle.stm_events.specs.SlowDesk.{Waiter, Slow, declaration, waking, find_waiter, without_waiter, with_delivery, after_writes, after, Allows, initial_state, state_from, state_by, LegalFrom, IsLegalBy}
 use Rattle.stm_events.specs.Laws.{AreRising, DeclaredAreCovered, BlocksStay}
 use Rattle.stm_events.specs.States.{IsPossible, IsTicketOf, TicketsStay, VariablesStayCovered}
@@ -23,6 +23,7 @@ covered_after s (Installed t v) us c = c
 covered_after s (Finished t v n l) us c = covered_stay s.store v us c
 covered_after s (Cancelled t) us c = c
 covered_after s (DeclaredLate name kind value) us c = covered_stay s.store (declaration kind value) us c
+covered_after s (Labelled t label) us c = c
 
 covered_from : (s : Slow) (es : List Event) (us : List (ℕ × Ty)) → Covers (plains s.store) us → Covers (plains (state_from s es).store) us
 covered_from s [] us c = c
@@ -96,6 +97,7 @@ kept_after t b s (Cancelled u) a k = record {
   block = subst (IsBlock b) (sym (waiter_without u t s.next 0 s.waiters k.rising)) (block_gone (nat_eq t u) b (find_waiter t s.waiters) k.block);
 }
 kept_after t b s (DeclaredLate name kind value) a k = record { rising = k.rising; given = k.given; block = k.block }
+kept_after t b s (Labelled u label) a k = k
 
 kept_from : (t : ℕ) (b : Block) (s : Slow) (es : List Event) → LegalFrom s es → IsKept t b s → IsKept t b (state_from s es)
 kept_from t b s [] l k = k

@@ -11,6 +11,7 @@ pub mod Fresh
 pub mod Headline
 pub mod HeadlineFrom
 pub mod Kept
+pub mod Labelling
 pub mod NamedVariables
 pub mod Observed
 pub mod Possible

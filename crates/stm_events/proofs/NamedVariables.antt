@@ -18,7 +18,7 @@ use Rattle.stm_store.proofs.TypeTestsDecide.{and_left, and_right, le_true, kind_
 use Rattle.stm_store.proofs.Typed.{mapped}
 use Rattle.stm_check.proofs.Weakening.{covered}
 use Rattle.stm_events.specs.declared.event.What.{What}
-use Rattle.stm_events.specs.declared.event.What.TheVariants.{Submitted, Installed, Finished, Cancelled, Declared as DeclaredLate}
+use Rattle.stm_events.specs.declared.event.What.TheVariants.{Submitted, Installed, Finished, Cancelled, Declared as DeclaredLate, Labelled}
 use Rattle.stm_events.specs.SlowDesk.{Slow, MayDeclareLate, declaration, after}
 
 -- ---- one more
@@ -44,6 +44,7 @@ named_after s (Installed t v) c = c
 named_after s (Finished t v n l) c = covered_stay s.store v (named_uses s.names) c
 named_after s (Cancelled t) c = c
 named_after s (DeclaredLate name kind value) c = named_more s name kind value c
+named_after s (Labelled t label) c = c
 
 -- ---- the variables of a table
 get_after : (before : List Declared) (d : Declared) (ds : List Declared) → kinds_of (declared_cells (before ++ d ∷ ds)) (length before) ≡ Some d.kind

@@ -9,11 +9,12 @@ use Rattle.stm_events.specs.declared.errors.DeliverError.TheVariants as deliver
 use Rattle.stm_events.specs.declared.errors.FinishError.TheVariants as finish
 use Rattle.stm_events.specs.declared.event.Event.{Event}
 use Rattle.stm_events.specs.declared.event.What.{What}
-use Rattle.stm_events.specs.declared.event.What.TheVariants.{Submitted, Installed, Finished, Cancelled, Declared as DeclaredLate}
+use Rattle.stm_events.specs.declared.event.What.TheVariants.{Submitted, Installed, Finished, Cancelled, Declared as DeclaredLate, Labelled}
 use Rattle.stm_events.specs.Answers.{install_answer, AnswersAlike, ObservedAnswerAlike}
 use Rattle.stm_events.specs.BlockStatus.{read_then}
+use Rattle.stm_events.specs.Labels.{is_label}
 use Rattle.stm_events.specs.Ready.{is_ready}
-use Rattle.stm_events.specs.Refusals.{missing, submit_first, cancel_first, differing, overtaken_first, blocks_there, overflows, finish_first}
+use Rattle.stm_events.specs.Refusals.{missing, submit_first, label_first, cancel_first, differing, overtaken_first, blocks_there, overflows, finish_first}
 use Rattle.stm_events.specs.SlowDesk.{Waiter, Slow, declaration, with_name, under, verdict_on, waking, is_current, standing, find_waiter, without_waiter, stale_after, max_waiting, MayInstall, MayFinish, after, Allows, state_from, LegalFrom}
 use Rattle.stm_events.specs.SlowSettle.{Stop, NoRoom, NoCells, lowest, is_due, ends, can_end, installing, ending, next_of, Order, next_what, has_cells, settle_on, running, stop_on, run_stop}
 use Rattle.stm_events.specs.SlowDrain.{is_next, drain_of, next_drain}
@@ -43,6 +44,7 @@ observed_step s ws' (Finished t v n l) k =
 observed_step s ws' (DeclaredLate name kind value) k =
     observed_with (record s { store = applied s.store (declaration kind value); names = with_name s name kind }) (after s (DeclaredLate name kind value)).waiters (after (with_waiters s ws') (DeclaredLate name kind value)).waiters k
 observed_step s ws' (Cancelled t) k = observed_with s (after s (Cancelled t)).waiters (after (with_waiters s ws') (Cancelled t)).waiters k
+observed_step s ws' (Labelled t label) k = observed_with s s.waiters ws' k
 
 moved_some : (o o' : Option Waiter) (P P' : Waiter → Type 0) → MayBeAlike o o' → ((w w' : Waiter) → IsAlike w w' → P w → P' w') → IsSomeAnd o P → IsSomeAnd o' P'
 moved_some None None P P' m f a = absurd a
@@ -76,6 +78,8 @@ module _ (s : Slow) (ws' : List Waiter) (k : AreAlike s.waiters ws') (h : HadVer
   allows_alike (DeclaredLate name kind value) a = record { name_is = a.name_is; fresh = a.fresh; holds = a.holds; room = a.room }
   allows_alike (Cancelled t) a =
       moved_some (find_waiter t s.waiters) (find_waiter t ws') (λ w. Unit {0}) (λ w. Unit {0}) (alike_found t s.waiters ws' k) (λ w w' a u. u) a
+  allows_alike (Labelled t label) a =
+      moved_some (find_waiter t s.waiters) (find_waiter t ws') (λ w. is_label label ≡ true) (λ w. is_label label ≡ true) (alike_found t s.waiters ws' k) (λ w w' a u. u) a
 
 -- ---- the events
 pub observed_after : (s s' : Slow) (what : What) → IsPossible s → IsPossible s' → observed s ≡ observed s' → Allows s what
@@ -97,6 +101,12 @@ pub observations_decide : ObservationsDecide
 observations_decide = record { next = observed_after; later = observed_from }
 
 -- ---- the answers
+label_by : (full : Bool) (o o' : Option Waiter) → MayBeAlike o o' → label_first o full ≡ label_first o' full
+label_by full None None m = refl
+label_by full None (Some w') m = absurd m
+label_by full (Some w) None m = absurd m
+label_by full (Some w) (Some w') m = refl
+
 cancel_by : (full : Bool) (o o' : Option Waiter) → MayBeAlike o o' → cancel_first o full ≡ cancel_first o' full
 cancel_by full None None m = refl
 cancel_by full None (Some w') m = absurd m
@@ -204,6 +214,7 @@ cells_with s ws' (Installed t v) = refl
 cells_with s ws' (Finished t v n l) = refl
 cells_with s ws' (Cancelled t) = refl
 cells_with s ws' (DeclaredLate name kind value) = refl
+cells_with s ws' (Labelled t label) = refl
 
 cells_alike : (s s' : Slow) (d : What) → observed s ≡ observed s' → has_cells s d ≡ has_cells s' d
 cells_alike s s' d e = cells_with s s'.waiters d ∙ ap (λ (x : Slow). has_cells x d) (same_state s s' e)
@@ -260,6 +271,7 @@ answers_with s ws' k p p' e =
     record {
       submit = λ full block. ap (λ (n : ℕ). submit_first (missing (plains s.store) block.uses) (nat_le max_waiting n) full) (same_length s.waiters ws' k);
       declare = λ full name kind value. refl;
+      label = λ full t. label_by full (find_waiter t s.waiters) (find_waiter t ws') (found t);
       cancel = λ full t. cancel_by full (find_waiter t s.waiters) (find_waiter t ws') (found t);
       finish = λ full t. finish_by s.store full (find_waiter t s.waiters) (find_waiter t ws') (found t);
       deliver = λ full t reads. deliver_by s.store full reads (find_waiter t s.waiters) (find_waiter t ws') (found t);

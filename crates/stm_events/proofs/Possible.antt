@@ -7,7 +7,7 @@ use Rattle.stm_store.specs.Tables.{Declared}
 use Rattle.stm_check.specs.TypedBlock.{Block}
 use Rattle.stm_events.specs.declared.event.Event.{Event}
 use Rattle.stm_events.specs.declared.event.What.{What}
-use Rattle.stm_events.specs.declared.event.What.TheVariants.{Submitted, Installed, Finished, Cancelled, Declared as DeclaredLate}
+use Rattle.stm_events.specs.declared.event.What.TheVariants.{Submitted, Installed, Finished, Cancelled, Declared as DeclaredLate, Labelled}
 use Rattle.stm_events.specs.declared.staleness.StalenessRule.{StalenessRule}
 use Rattle.stm_events.specs.SlowDesk.{Since, Waiter, Slow, under, verdict_on, is_stale_since, waking, MayInstall, find_waiter, without_waiter, with_delivery, delivered, woken_more, after_writes, after, Allows, initial_state, state_from, LegalFrom}
 use Rattle.stm_events.specs.States.{HadVerdict, HadVerdicts, IsPossible, PossibleStatesStay}
@@ -53,6 +53,7 @@ had_after s (Installed t v) c a = had_delivered t s v s.waiters c a
 had_after s (Finished t v n l) c a = had_marks (waking s.rule s.store v) (without_waiter t s.waiters) (had_without t s.waiters c)
 had_after s (Cancelled t) c a = had_without t s.waiters c
 had_after s (DeclaredLate name kind value) c a = c
+had_after s (Labelled t label) c a = c
 
 had_cons : (b : Bool) (w one : Waiter) (o : Option Waiter) → HadVerdict w.block w.since → (o ≡ Some one → HadVerdict one.block one.since) → cond b (Some w) o ≡ Some one → HadVerdict one.block one.since
 had_cons true w one o c more e = let h : w ≡ one = cc in subst (λ (x : Waiter). HadVerdict x.block x.since) h c

@@ -6,7 +6,7 @@ use Rattle.stm_store.specs.declared.cell.Cell.{Cell}
 use Rattle.stm_store.specs.Tables.{Declared}
 use Rattle.stm_events.specs.declared.event.Event.{Event}
 use Rattle.stm_events.specs.declared.event.What.{What}
-use Rattle.stm_events.specs.declared.event.What.TheVariants.{Submitted, Installed, Finished, Cancelled, Declared as DeclaredLate}
+use Rattle.stm_events.specs.declared.event.What.TheVariants.{Submitted, Installed, Finished, Cancelled, Declared as DeclaredLate, Labelled}
 use Rattle.stm_events.specs.declared.staleness.StalenessRule.{StalenessRule}
 use Rattle.stm_events.specs.SlowDesk.{Waiter, Slow, waking, find_waiter, without_waiter, with_delivery, delivered, after_writes, after, Allows, initial_state, state_from, state_by, LegalFrom, IsLegalBy}
 use Rattle.stm_events.specs.Laws.{AreRising, TicketsRise}
@@ -45,6 +45,7 @@ rising_after s (Installed t v) p r a = rising_delivered t s.next 0 s.store s.wai
 rising_after s (Finished t v n l) p r a = rising_marks (waking s.rule s.store v) s.next 0 (without_waiter t s.waiters) (rising_without t s.next 0 s.waiters r)
 rising_after s (Cancelled t) p r a = rising_without t s.next 0 s.waiters r
 rising_after s (DeclaredLate name kind value) p r a = r
+rising_after s (Labelled t label) p r a = r
 
 pub next_after : (s : Slow) (d : What) → 0 < s.next → 0 < (after s d).next
 next_after s (Submitted t b) p = omega arith
@@ -52,6 +53,7 @@ next_after s (Installed t v) p = p
 next_after s (Finished t v n l) p = p
 next_after s (Cancelled t) p = p
 next_after s (DeclaredLate name kind value) p = p
+next_after s (Labelled t label) p = p
 
 pub rising_all : (s : Slow) (es : List Event) → LegalFrom s es → 0 < s.next → AreRising s.next 0 s.waiters → AreRising (state_from s es).next 0 (state_from s es).waiters
 rising_all s [] l p r = r
@@ -67,6 +69,7 @@ after_next s (Installed t v) = omega arith
 after_next s (Finished t v n l) = omega arith
 after_next s (Cancelled t) = omega arith
 after_next s (DeclaredLate name kind value) = omega arith
+after_next s (Labelled t label) = omega arith
 
 pub next_le : (s : Slow) (es : List Event) → (state_from s es).next ≤ s.next + length es
 next_le s [] = omega arith

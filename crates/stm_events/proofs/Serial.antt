@@ -5,7 +5,7 @@ use Rattle.stm_terms.specs.declared.verdicts.Verdict.{Verdict}
 use Rattle.stm_store.specs.Cells.{applied}
 use Rattle.stm_events.specs.declared.event.Event.{Event}
 use Rattle.stm_events.specs.declared.event.What.{What}
-use Rattle.stm_events.specs.declared.event.What.TheVariants.{Submitted, Installed, Finished, Cancelled, Declared as DeclaredLate}
+use Rattle.stm_events.specs.declared.event.What.TheVariants.{Submitted, Installed, Finished, Cancelled, Declared as DeclaredLate, Labelled}
 use Rattle.stm_events.specs.SlowDesk.{Waiter, Slow, SerialStep, MayFinish, find_waiter, after, Allows, initial_state, state_from, LegalFrom, applied_or, serial, turns_of_waiter, turns_by, serial_steps_from}
 use Rattle.stm_events.specs.Laws.{StoreIsSerial}
 
@@ -20,6 +20,7 @@ serial_step s (Installed t v) bs a = refl
 serial_step s (Finished t v n l) bs a = serial_finish s t v n l (find_waiter t s.waiters) bs a
 serial_step s (Cancelled t) bs a = refl
 serial_step s (DeclaredLate name kind value) bs a = refl
+serial_step s (Labelled t label) bs a = refl
 
 pub serial_from : (s : Slow) (es : List Event) → LegalFrom s es → (state_from s es).store ≡ serial s.store (serial_steps_from s es)
 serial_from s [] l = refl

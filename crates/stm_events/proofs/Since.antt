@@ -9,7 +9,7 @@ use Rattle.stm_store.specs.Tables.{Declared}
 use Rattle.stm_check.specs.TypedBlock.{Block}
 use Rattle.stm_events.specs.declared.event.Event.{Event}
 use Rattle.stm_events.specs.declared.event.What.{What}
-use Rattle.stm_events.specs.declared.event.What.TheVariants.{Submitted, Installed, Finished, Cancelled, Declared as DeclaredLate}
+use Rattle.stm_events.specs.declared.event.What.TheVariants.{Submitted, Installed, Finished, Cancelled, Declared as DeclaredLate, Labelled}
 use Rattle.stm_events.specs.declared.staleness.StalenessRule.{StalenessRule}
 use Rattle.stm_events.specs.SlowDesk.{Since, Waiter, Slow, verdict_on, waking, MayInstall, find_waiter, without_waiter, with_delivery, woken_more, after_writes, after, Allows, initial_state, state_from, state_by, LegalFrom, IsLegalBy}
 use Rattle.stm_events.specs.Laws.{AreRising}
@@ -215,6 +215,13 @@ tracked_after rule table h s c (DeclaredLate name kind value) k a = record {
   reached = ap (λ (x : Slow). after x (DeclaredLate name kind value)) k.reached ∙ sym (state-push (initial_state rule table) h (by_client c (DeclaredLate name kind value)));
   each = λ u w e. tracks-quiet rule table h (by_client c (DeclaredLate name kind value)) u w.block w.since refl refl (k.each u w e);
   none_yet = λ u l. later_none h (by_client c (DeclaredLate name kind value)) u refl (k.none_yet u l);
+}
+tracked_after rule table h s c (Labelled t label) k a = record {
+  rising = k.rising;
+  begun = k.begun;
+  reached = k.reached ∙ sym (state-push (initial_state rule table) h (by_client c (Labelled t label)));
+  each = λ u w e. tracks-quiet rule table h (by_client c (Labelled t label)) u w.block w.since refl refl (k.each u w e);
+  none_yet = λ u l. later_none h (by_client c (Labelled t label)) u refl (k.none_yet u l);
 }
 
 tracked_all : (rule : StalenessRule) (table : List Declared) (h : List Event) (s : Slow) (es : List Event) → AreTracked rule table h s → LegalFrom s es → AreTracked rule table (h ++ es) (state_from s es)

@@ -8,7 +8,7 @@ use Rattle.stm_store.specs.declared.cell.Cell.{Cell}
 use Rattle.stm_check.specs.TypedBlock.{Block}
 use Rattle.stm_events.specs.declared.event.Event.{Event}
 use Rattle.stm_events.specs.declared.event.What.{What}
-use Rattle.stm_events.specs.declared.event.What.TheVariants.{Submitted, Installed, Finished, Cancelled, Declared as DeclaredLate}
+use Rattle.stm_events.specs.declared.event.What.TheVariants.{Submitted, Installed, Finished, Cancelled, Declared as DeclaredLate, Labelled}
 use Rattle.stm_events.specs.SlowDesk.{Since, Waiter, Slow, verdict_on, waking, MayInstall, find_waiter, without_waiter, with_delivery, woken_more, after_writes, after, Allows, state_from, LegalFrom}
 use Rattle.stm_events.specs.Laws.{AreRising}
 use Rattle.stm_events.specs.Headline.{installs_to, is_installed, waking_at, waking_from, LastDelivery}
@@ -238,6 +238,13 @@ tracked_after start h s c (DeclaredLate name kind value) k a = record {
   reached = ap (λ (x : Slow). after x (DeclaredLate name kind value)) k.reached ∙ sym (state-push start h (by_client c (DeclaredLate name kind value)));
   each = λ u w e. tracks-quiet start h (by_client c (DeclaredLate name kind value)) u w.block w.since refl refl (k.each u w e);
   none_yet = λ u l. later_none h (by_client c (DeclaredLate name kind value)) u refl (k.none_yet u l);
+}
+tracked_after start h s c (Labelled t label) k a = record {
+  rising = k.rising;
+  begun = k.begun;
+  reached = k.reached ∙ sym (state-push start h (by_client c (Labelled t label)));
+  each = λ u w e. tracks-quiet start h (by_client c (Labelled t label)) u w.block w.since refl refl (k.each u w e);
+  none_yet = λ u l. later_none h (by_client c (Labelled t label)) u refl (k.none_yet u l);
 }
 
 tracked_all : (start : Slow) (h : List Event) (s : Slow) (es : List Event) → AreTracked start h s → LegalFrom s es → AreTracked start (h ++ es) (state_from s es)

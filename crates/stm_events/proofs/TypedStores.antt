@@ -15,7 +15,7 @@ use Rattle.stm_check.proofs.TypingLaws.{every_verdict_fits}
 use Rattle.stm_check.proofs.Weakening.{verdict_fits}
 use Rattle.stm_events.specs.declared.event.Event.{Event}
 use Rattle.stm_events.specs.declared.event.What.{What}
-use Rattle.stm_events.specs.declared.event.What.TheVariants.{Submitted, Installed, Finished, Cancelled, Declared as DeclaredLate}
+use Rattle.stm_events.specs.declared.event.What.TheVariants.{Submitted, Installed, Finished, Cancelled, Declared as DeclaredLate, Labelled}
 use Rattle.stm_events.specs.declared.staleness.StalenessRule.{StalenessRule}
 use Rattle.stm_events.specs.SlowDesk.{Since, Waiter, Slow, declaration, verdict_on, waking, MayFinish, find_waiter, without_waiter, with_delivery, delivered, woken_more, after_writes, after, Allows, initial_state, state_from, state_by, LegalFrom}
 use Rattle.stm_events.specs.Laws.{IsWellTyped, SubmitsWellTyped, SubmittedAreWellTyped, WaitingAreWellTyped, StoresAreTyped, BlocksHaveVerdicts}
@@ -55,6 +55,7 @@ blocks_after s (Installed t v) c a = typed_delivered t s.store s.waiters c
 blocks_after s (Finished t v n l) c a = typed_marks (waking s.rule s.store v) (without_waiter t s.waiters) (typed_without t s.waiters c)
 blocks_after s (Cancelled t) c a = typed_without t s.waiters c
 blocks_after s (DeclaredLate name kind value) c a = c
+blocks_after s (Labelled t label) c a = c
 
 found_cons : (b : Bool) (w one : Waiter) (o : Option Waiter) → IsWellTyped w.block → (o ≡ Some one → IsWellTyped one.block) → cond b (Some w) o ≡ Some one → IsWellTyped one.block
 found_cons true w one o c more e = let h : w ≡ one = cc in subst (λ (x : Waiter). IsWellTyped x.block) h c
@@ -90,6 +91,7 @@ store_after s (Installed t v) n c bs k a = k
 store_after s (Finished t v f l) n c bs k a = finished_typed s t v f l (find_waiter t s.waiters) c bs k refl a
 store_after s (Cancelled t) n c bs k a = k
 store_after s (DeclaredLate name kind value) n c bs k a = applied_typed s.store (declaration kind value) (declaration_fits s name kind value n a) k
+store_after s (Labelled t label) n c bs k a = k
 
 -- ---- the stores of the deliveries
 were_without_cons : (b : Bool) (store : List Cell) (w : Waiter) (ws vs : List Waiter) → WasTyped store w.since → WereTyped store ws → WereTyped store vs → WereTyped store (cond b ws (w ∷ vs))
@@ -136,6 +138,7 @@ were_after s (Installed t v) k c = were_delivered t s.store s.waiters k c
 were_after s (Finished t v n l) k c = were_marks s.rule s.store v (without_waiter t s.waiters) (were_without t s.store s.waiters c)
 were_after s (Cancelled t) k c = were_without t s.store s.waiters c
 were_after s (DeclaredLate name kind value) k c = were_declared s.store kind value s.waiters c
+were_after s (Labelled t label) k c = c
 
 -- ---- states
 pub typed_initial : (rule : StalenessRule) (table : List Declared) → StoreIsTyped (plains (opened table)) → IsTypedState (initial_state rule table)

@@ -7,7 +7,7 @@ use Rattle.stm_check.specs.TypedBlock.{Block}
 use Rattle.stm_events.specs.declared.errors.DeliverError.{DeliverError}
 use Rattle.stm_events.specs.BlockStatus.{read_then}
 use Rattle.stm_events.specs.Ready.{next_ready}
-use Rattle.stm_events.specs.Refusals.{submit_refused, late_declare_refused, cancel_refused, install_first, finish_refused}
+use Rattle.stm_events.specs.Refusals.{submit_refused, late_declare_refused, label_refused, cancel_refused, install_first, finish_refused}
 use Rattle.stm_events.specs.SlowDesk.{Waiter, Slow, standing, is_current, find_waiter}
 use Rattle.stm_events.specs.SlowDrain.{next_drain, draining, drain_stop}
 use Rattle.stm_events.specs.SlowSettle.{next_what, settling, settle_stop}
@@ -22,6 +22,7 @@ pub record AnswersAlike (s s' : Slow) : Type 0 where
   pub submit : (full : Bool) (block : Block) → submit_refused s full block ≡ submit_refused s' full block
   pub declare : (full : Bool) (name : List ℕ) (kind : Ty) (value : Value)
       → late_declare_refused s full name kind value ≡ late_declare_refused s' full name kind value
+  pub label : (full : Bool) (t : ℕ) → label_refused s full t ≡ label_refused s' full t
   pub cancel : (full : Bool) (t : ℕ) → cancel_refused s full t ≡ cancel_refused s' full t
   pub finish : (full : Bool) (t : ℕ) → finish_refused s full t ≡ finish_refused s' full t
   pub deliver : (full : Bool) (t : ℕ) (reads : List (ℕ × Value))

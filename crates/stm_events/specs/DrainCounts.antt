@@ -1,7 +1,7 @@
 -- How many blocks draining runs: those that are new or stale, and those that its finishes make stale.
 use Rattle.std.specs.Prelude.{◌≡◌, ℕ, ◌+◌, List, [], ◌∷◌, filter, length, None}
 use Rattle.stm_events.specs.declared.event.What.{What}
-use Rattle.stm_events.specs.declared.event.What.TheVariants.{Submitted, Installed, Finished, Cancelled, Declared as DeclaredLate}
+use Rattle.stm_events.specs.declared.event.What.TheVariants.{Submitted, Installed, Finished, Cancelled, Declared as DeclaredLate, Labelled}
 use Rattle.stm_events.specs.SlowDesk.{Slow}
 use Rattle.stm_events.specs.SlowSettle.{is_due, installs}
 use Rattle.stm_events.specs.SlowDrain.{draining, drain_stop}
@@ -18,6 +18,7 @@ stales_of (Installed t v) = 0
 stales_of (Finished t v n stale) = length stale
 stales_of (Cancelled t) = 0
 stales_of (DeclaredLate name kind value) = 0
+stales_of (Labelled t label) = 0
 
 abbrev pub stales : List What → ℕ
 stales [] = 0

@@ -5,7 +5,7 @@ use Rattle.stm_terms.specs.declared.verdicts.Verdict.{Verdict}
 use Rattle.stm_store.specs.Tables.{Declared, opened}
 use Rattle.stm_events.specs.declared.event.Event.{Event}
 use Rattle.stm_events.specs.declared.event.What.{What}
-use Rattle.stm_events.specs.declared.event.What.TheVariants.{Submitted, Installed, Finished, Cancelled, Declared as DeclaredLate}
+use Rattle.stm_events.specs.declared.event.What.TheVariants.{Submitted, Installed, Finished, Cancelled, Declared as DeclaredLate, Labelled}
 use Rattle.stm_events.specs.declared.staleness.StalenessRule.{StalenessRule}
 use Rattle.stm_events.specs.declared.staleness.StalenessRule.TheVariants.{Changed}
 use Rattle.stm_events.specs.SlowDesk.{Slow, Waiter, looked_on, verdict_on, waking, intersects, is_new, is_current, find_waiter, after, initial_state, state_by, serial, serial_steps_from, IsLegalBy}
@@ -17,6 +17,7 @@ installs_to t (Installed u v) = nat_eq t u
 installs_to t (Finished u v n stale) = false
 installs_to t (Cancelled u) = false
 installs_to t (DeclaredLate name kind value) = false
+installs_to t (Labelled u label) = false
 
 -- one of the events is a delivery to the ticket
 abbrev pub is_installed : ℕ → List Event → Bool
@@ -30,6 +31,7 @@ waking_at s (Installed t v) = []
 waking_at s (Finished t v n stale) = waking s.rule s.store v
 waking_at s (Cancelled t) = []
 waking_at s (DeclaredLate name kind value) = []
+waking_at s (Labelled t label) = []
 
 -- the same of these events, which begin on a state
 abbrev pub waking_from : Slow → List Event → List ℕ

@@ -10,7 +10,7 @@ use Rattle.stm_check.specs.TypedBlock.{Block}
 use Rattle.stm_eval.specs.Messages.{Holds}
 use Rattle.stm_events.specs.declared.event.Event.{Event}
 use Rattle.stm_events.specs.declared.event.What.{What}
-use Rattle.stm_events.specs.declared.event.What.TheVariants.{Submitted, Installed, Finished, Cancelled, Declared as DeclaredLate}
+use Rattle.stm_events.specs.declared.event.What.TheVariants.{Submitted, Installed, Finished, Cancelled, Declared as DeclaredLate, Labelled}
 use Rattle.stm_events.specs.declared.staleness.StalenessRule.{StalenessRule}
 use Rattle.stm_events.specs.SlowDesk.{Since, Waiter, Slow, under, verdict_on, is_stale_since, find_waiter, initial_state, state_by, serial_steps_from, serial, standing, weak_standing, IsLegalBy}
 
@@ -86,6 +86,7 @@ SubmitsWellTyped (Installed t v) = Unit {0}
 SubmitsWellTyped (Finished t v n stale) = Unit {0}
 SubmitsWellTyped (Cancelled t) = Unit {0}
 SubmitsWellTyped (DeclaredLate name kind value) = Unit {0}
+SubmitsWellTyped (Labelled t label) = Unit {0}
 
 -- each block that the events submit is well typed
 abbrev pub SubmittedAreWellTyped : List Event → Type 0

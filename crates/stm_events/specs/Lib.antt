@@ -6,6 +6,8 @@ pub mod Delivered
 pub mod DrainCounts
 pub mod Headline
 pub mod HeadlineFrom
+pub mod Labelling
+pub mod Labels
 pub mod Laws
 pub mod Ready
 pub mod Refusals

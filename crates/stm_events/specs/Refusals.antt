@@ -24,6 +24,8 @@ use Rattle.stm_events.specs.declared.errors.LateDeclareError.{LateDeclareError}
 use Rattle.stm_events.specs.declared.errors.LateDeclareError.TheVariants as declare
 use Rattle.stm_events.specs.declared.errors.CancelError.{CancelError}
 use Rattle.stm_events.specs.declared.errors.CancelError.TheVariants as cancel
+use Rattle.stm_events.specs.declared.errors.LabelError.{LabelError}
+use Rattle.stm_events.specs.declared.errors.LabelError.TheVariants as label
 
 -- ---- submit
 -- the first variable that is not there with its type
@@ -49,6 +51,16 @@ cancel_first (Some w) full = if full then Some cancel.HistoryFull else None
 -- why a ticket can't be cancelled, if it can't
 abbrev pub cancel_refused : Slow → Bool → ℕ → Option CancelError
 cancel_refused s full t = cancel_first (find_waiter t s.waiters) full
+
+-- ---- label
+-- the first that holds: no block waits under the ticket, the history is full
+abbrev pub label_first : Option Waiter → Bool → Option LabelError
+label_first None full = Some label.NoTicket
+label_first (Some w) full = if full then Some label.HistoryFull else None
+
+-- why the block under a ticket can't be labelled, if it can't; the caller knows that the text is a label
+abbrev pub label_refused : Slow → Bool → ℕ → Option LabelError
+label_refused s full t = label_first (find_waiter t s.waiters) full
 
 -- ---- declare
 -- the first that holds: the name is another variable's, the value isn't of the type, the history is full, the store is

@@ -1,5 +1,6 @@
--- What many may hold, as the code keeps it: `Blocks`, and a list of no ticket, are kept by nothing.
-use Rattle.std.specs.Prelude.{ℕ, List, [], Option, Some, None}
+-- What many may hold, as the code keeps it: `Blocks`, a list of no ticket, and an empty name are kept by nothing.
+use Rattle.std.specs.Prelude.{ℕ, List, [], Option, Some, None, string_bytes}
+use Rattle.std.specs.declared.string.String.{String}
 use Rattle.std.specs.declared.sync.Arc.{Arc}
 use Rattle.std.specs.Global.{Global}
 use Rattle.stm_terms.specs.declared.verdicts.Verdict.{Verdict}
@@ -14,3 +15,8 @@ verdict_in (Some a) = a.value
 abbrev pub tickets_in : Option (Arc (List ℕ) Global) → List ℕ
 tickets_in None = []
 tickets_in (Some a) = a.value
+
+-- the name that is kept
+abbrev pub name_in : Option (Arc (String Global) Global) → List ℕ
+name_in None = []
+name_in (Some a) = string_bytes a.value

@@ -20,9 +20,10 @@ use Rattle.stm_store.specs.Tables.{Declared, opened}
 use Rattle.stm_check.specs.TypedBlock.{Block}
 use Rattle.stm_events.specs.declared.event.Event.{Event}
 use Rattle.stm_events.specs.declared.event.What.{What}
-use Rattle.stm_events.specs.declared.event.What.TheVariants.{Submitted, Installed, Finished, Cancelled, Declared as DeclaredLate}
+use Rattle.stm_events.specs.declared.event.What.TheVariants.{Submitted, Installed, Finished, Cancelled, Declared as DeclaredLate, Labelled}
 use Rattle.stm_events.specs.declared.staleness.StalenessRule.{StalenessRule}
 use Rattle.stm_events.specs.declared.staleness.StalenessRule.TheVariants.{Written, Changed}
+use Rattle.stm_events.specs.Labels.{is_label}
 
 -- the variables of a store, as blocks see them
 abbrev pub under : List Cell → Variables
@@ -159,7 +160,7 @@ declaration kind value = Commits [] ((kind, value) ∷ []) (Var (NewRef 0))
 abbrev pub with_name : Slow → List ℕ → Ty → List Named
 with_name s name kind = s.names ++ record { name = name; number = length s.store; kind = kind } ∷ []
 
--- how an event acts: a variable that is declared is the next one of the store, and wakes nobody
+-- how an event acts: a variable that is declared is the next one of the store, and wakes nobody; a label changes nothing
 abbrev pub after : Slow → What → Slow
 after s (Submitted t block) =
     record s { next = s.next + 1; waiters = s.waiters ++ record { ticket = t; block = block; since = None } ∷ [] }
@@ -169,6 +170,7 @@ after s (Finished t v n stale) =
 after s (Cancelled t) = record s { waiters = without_waiter t s.waiters }
 after s (DeclaredLate name kind value) =
     record s { store = applied s.store (declaration kind value); names = with_name s name kind }
+after s (Labelled t label) = s
 
 -- a block may be installed: it isn't current, and the verdict is the one that it has on the present store
 pub record MayInstall (s : Slow) (w : Waiter) (v : Verdict) : Type 0 where
@@ -199,6 +201,7 @@ Allows s (Installed t v) = IsSomeAnd (find_waiter t s.waiters) (λ w. MayInstall
 Allows s (Finished t v n stale) = IsSomeAnd (find_waiter t s.waiters) (λ w. MayFinish s t w v n stale)
 Allows s (Cancelled t) = IsSomeAnd (find_waiter t s.waiters) (λ w. Unit {0})
 Allows s (DeclaredLate name kind value) = MayDeclareLate s name kind value
+Allows s (Labelled t label) = IsSomeAnd (find_waiter t s.waiters) (λ w. is_label label ≡ true)
 
 -- it allows the event, of a client
 pub record AllowsEvent (s : Slow) (e : Event) : Type 0 where
@@ -296,6 +299,7 @@ turns_by s (Installed t v) = []
 turns_by s (Finished t v n stale) = turns_of_waiter (find_waiter t s.waiters)
 turns_by s (Cancelled t) = []
 turns_by s (DeclaredLate name kind value) = Declares kind value ∷ []
+turns_by s (Labelled t label) = []
 
 -- the turns of these events, in order: the blocks that finish, and the variables that are declared
 abbrev pub serial_steps_from : Slow → List Event → List SerialStep

@@ -5,7 +5,7 @@ use Rattle.std.specs.Prelude.{◌≡◌, ◌≢◌, ◌≤◌, ℕ, ◌||◌, Bo
 use Rattle.stm_terms.specs.declared.verdicts.Verdict.{Verdict}
 use Rattle.stm_store.specs.declared.cell.Cell.{Cell}
 use Rattle.stm_events.specs.declared.event.What.{What}
-use Rattle.stm_events.specs.declared.event.What.TheVariants.{Submitted, Installed, Finished, Cancelled, Declared as DeclaredLate}
+use Rattle.stm_events.specs.declared.event.What.TheVariants.{Submitted, Installed, Finished, Cancelled, Declared as DeclaredLate, Labelled}
 use Rattle.stm_events.specs.SlowDesk.{Slow, Waiter, verdict_on, after}
 use Rattle.stm_events.specs.SlowSettle.{lowest, is_due, can_end, installing, ending, Order, running, Stop, NoRoom, run_stop, settling, settle_stop, installs, AllBlock}
 use Rattle.stm_events.specs.States.{IsPossible, IsTypedState, observed}
@@ -45,6 +45,7 @@ served_by (Installed t v) = []
 served_by (Finished t v n stale) = record { ticket = t; verdict = v; first_new = n } ∷ []
 served_by (Cancelled t) = []
 served_by (DeclaredLate name kind value) = []
+served_by (Labelled t label) = []
 
 -- the finishes, in their order
 abbrev pub served : List What → List Served

@@ -8,7 +8,7 @@ use Rattle.stm_terms.specs.declared.verdicts.Verdict.TheVariants.{Blocks}
 use Rattle.stm_store.specs.declared.cell.Cell.{Cell}
 use Rattle.stm_store.specs.Cells.{made_by}
 use Rattle.stm_events.specs.declared.event.What.{What}
-use Rattle.stm_events.specs.declared.event.What.TheVariants.{Submitted, Installed, Finished, Cancelled, Declared as DeclaredLate}
+use Rattle.stm_events.specs.declared.event.What.TheVariants.{Submitted, Installed, Finished, Cancelled, Declared as DeclaredLate, Labelled}
 use Rattle.stm_events.specs.SlowDesk.{Slow, Waiter, verdict_on, waking, is_blocks, is_current, find_waiter, without_waiter, stale_after, max_cells, after}
 
 -- the first waiting block of the test; tickets rise, so it is the one of the lowest ticket
@@ -60,6 +60,7 @@ has_cells s (Installed t v) = true
 has_cells s (Finished t v n stale) = nat_le (length s.store + length (made_by v)) max_cells
 has_cells s (Cancelled t) = true
 has_cells s (DeclaredLate name kind value) = nat_lt (length s.store) max_cells
+has_cells s (Labelled t label) = true
 
 -- ---- running: one thing after another
 -- this event, if there is one and the store has room for it, and then what is done after it
@@ -107,6 +108,7 @@ is_finish (Installed t v) = false
 is_finish (Finished t v n stale) = true
 is_finish (Cancelled t) = false
 is_finish (DeclaredLate name kind value) = false
+is_finish (Labelled t label) = false
 
 -- a verdict is installed
 abbrev pub is_install : What → Bool
@@ -115,6 +117,7 @@ is_install (Installed t v) = true
 is_install (Finished t v n stale) = false
 is_install (Cancelled t) = false
 is_install (DeclaredLate name kind value) = false
+is_install (Labelled t label) = false
 
 -- how many blocks were finished
 abbrev pub finishes : List What → ℕ

@@ -65,6 +65,17 @@ pub enum CancelError {
     NoMemory,
 }
 
+/// Why a block isn't labelled.
+#[derive(Clone, Copy, Debug, PartialEq, Eq, Error)]
+pub enum LabelError {
+    #[error("no block waits under the ticket")]
+    NoTicket,
+    #[error("the history is full")]
+    HistoryFull,
+    #[error("out of memory")]
+    NoMemory,
+}
+
 /// Why a variable isn't declared after the first command.
 #[derive(Clone, Copy, Debug, PartialEq, Eq, Error)]
 pub enum LateDeclareError {
@@ -111,6 +122,17 @@ impl From<AllocError> for CancelError {
 
     fn from(_refusal: AllocError) -> CancelError {
         CancelError::NoMemory
+    }
+}
+
+impl From<AllocError> for LabelError {
+    ghost use Rattle.std.specs.Prelude.{◌≡◌};
+    ghost use Rattle.stm_events.specs.declared.errors.LabelError.{LabelError};
+
+    ghost from_gives = { λ _ e. e ≡ LabelError.NoMemory };
+
+    fn from(_refusal: AllocError) -> LabelError {
+        LabelError::NoMemory
     }
 }
 

@@ -5,6 +5,7 @@ ghost use Rattle.stm_events.specs.declared.staleness.StalenessRule.{StalenessRul
 ghost use Rattle.stm_events.specs.Headline.{Headline, HeadlineBy};
 ghost use Rattle.stm_events.specs.HeadlineFrom.{HeadlineFrom};
 ghost use Rattle.stm_events.specs.Declaring.{DeclarationsChangeNothing, NamesStay};
+ghost use Rattle.stm_events.specs.Labelling.{LabelsChangeNothing, LabelsAreOfWaiting};
 ghost use Rattle.stm_events.specs.Ready.{ReadyFinishesNext};
 ghost use Rattle.stm_events.specs.Rounds.{SettlingIsRounds};
 ghost use Rattle.stm_events.specs.SlowDrain.{DrainsAsSettling};
@@ -139,4 +140,14 @@ pub fn declarations_change_nothing()
 /// A name keeps its number, and a text that the check accepts stays the same block, over every event.
 pub fn names_stay()
     ensures { NamesStay }
+{}
+
+/// A label changes nothing of the state.
+pub fn labels_change_nothing()
+    ensures { LabelsChangeNothing }
+{}
+
+/// Only waiting blocks have labels: a label goes when its block finishes or is cancelled.
+pub fn labels_are_of_waiting()
+    ensures { LabelsAreOfWaiting }
 {}

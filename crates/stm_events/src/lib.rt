@@ -5,12 +5,14 @@
 //! `specs/Rounds` the same in rounds, `specs/Ready` which blocks could finish now, `specs/Refusals` why each call is refused,
 //! `specs/Headline` which blocks are marked stale and what the verdicts of the others are worth, and `specs/Laws` what else
 //! holds after every legal history (`laws`).
-//! `same` returns whether two events are equal.
+//! `specs/Labels` says which labels waiting blocks have. `same` returns whether two events are equal.
 #![tactic(auto)]
 
 pub mod delivery;
 pub mod errors;
 pub mod event;
+pub mod label;
+pub mod label_table;
 pub mod laws;
 pub mod same;
 pub mod shared_name;
@@ -20,8 +22,12 @@ pub mod status;
 pub mod tickets;
 
 pub use delivery::Delivery;
-pub use errors::{CancelError, DeliverError, FinishError, LateDeclareError, SubmitError};
+pub use errors::{
+    CancelError, DeliverError, FinishError, LabelError, LateDeclareError, SubmitError,
+};
 pub use event::{Event, What};
+pub use label::{LONGEST_LABEL, is_label};
+pub use label_table::LabelTable;
 pub use shared_name::SharedName;
 pub use shared_verdict::SharedVerdict;
 pub use staleness::StalenessRule;

@@ -76,6 +76,13 @@ fn same_what(one: &What, other: &What) -> bool
                 value: other_value,
             },
         ) => *kind == *other_kind && *value == *other_value && name.same(other_name),
+        (
+            What::Labelled { ticket, label },
+            What::Labelled {
+                ticket: other_ticket,
+                label: other_label,
+            },
+        ) => *ticket == *other_ticket && label.same(other_label),
         _ => false,
     }
 }

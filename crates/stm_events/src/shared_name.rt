@@ -1,24 +1,26 @@
-//! Names of variables that many may hold.
+//! Names that many may hold.
 
-ghost use Rattle.std.specs.Prelude.{◌≡◌, ◌↔◌, IfOk, IsTrue, string_bytes};
+ghost use Rattle.std.specs.Prelude.{◌≡◌, ◌↔◌, [], IfOk, IsTrue, string_bytes};
 
 use std::alloc::Global;
 use std::marker::Model;
 use std::sync::Arc;
 use stm_terms::NoMemory;
 
-/// A name that many may hold: it is in memory once. Contracts see its text.
+/// A name that many may hold: it is in memory once, and an empty one takes none. Contracts see its text.
 #[derive(Drop)]
 pub struct SharedName {
-    text: Arc<String, Global>,
+    // None is the empty text.
+    text: Option<Arc<String, Global>>,
 }
 
 impl Model for SharedName {
-    ghost use Rattle.std.specs.Prelude.{List, ℕ, string_bytes};
+    ghost use Rattle.std.specs.Prelude.{List, ℕ};
+    ghost use Rattle.stm_events.specs.Sharing.{name_in};
 
     ghost Value = { List ℕ };
 
-    ghost view = { λ n. string_bytes n.text.value };
+    ghost view = { λ n. name_in n.text };
 }
 
 fn same_text(one: &str, other: &str) -> bool
@@ -28,12 +30,22 @@ fn same_text(one: &str, other: &str) -> bool
 }
 
 impl SharedName {
+    /// The empty text.
+    pub fn none() -> SharedName
+        ensures { result ≡ [] }
+    {
+        SharedName { text: None }
+    }
+
     /// Puts a name where many may hold it.
     pub fn new(alloc: Global, text: String) -> Result<SharedName, NoMemory>
         ensures { IfOk result (λ n. n ≡ string_bytes text) }
     {
+        if text.is_empty() {
+            return Ok(SharedName { text: None });
+        }
         Ok(SharedName {
-            text: Arc::new(alloc, text)?,
+            text: Some(Arc::new(alloc, text)?),
         })
     }
 
@@ -41,16 +53,22 @@ impl SharedName {
     pub fn share(&self) -> Result<SharedName, NoMemory>
         ensures { IfOk result (λ n. n ≡ self.now) }
     {
-        Ok(SharedName {
-            text: Arc::try_clone(&self.text)?,
-        })
+        match &self.text {
+            None => Ok(SharedName { text: None }),
+            Some(text) => Ok(SharedName {
+                text: Some(Arc::try_clone(text)?),
+            }),
+        }
     }
 
     /// The name.
     pub fn as_str(&self) -> &str
         ensures { result.now ≡ self.now }
     {
-        (*self.text).as_str()
+        match &self.text {
+            None => "",
+            Some(text) => (**text).as_str(),
+        }
     }
 
     /// Whether two names are one.
