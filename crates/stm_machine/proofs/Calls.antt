@@ -9,7 +9,8 @@ use Rattle.stm_check.specs.TypedBlock.{Block}
 use Rattle.stm_check.proofs.ExpressionsSound.{same_ty_equal}
 use Rattle.stm_watch.specs.Pairs.{Pairs, WithoutReads}
 use Rattle.stm_queue.specs.Queue.{has_ticket, with_ticket, without_ticket}
-use Rattle.stm_events.specs.declared.event.What.TheVariants.{Submitted, Cancelled}
+use Rattle.stm_events.specs.declared.event.What.TheVariants.{Submitted, Cancelled, Labelled}
+use Rattle.stm_events.specs.Labels.{is_label}
 use Rattle.stm_events.specs.SlowDesk.{Waiter, Slow, find_waiter, after, Allows, max_waiting}
 use Rattle.stm_events.specs.Laws.{AreRising}
 use Rattle.stm_waiting.specs.declared.waiting.Waiting.{Waiting}
@@ -17,7 +18,7 @@ use Rattle.stm_waiting.specs.Entries.{kept_at, lose, AllBelow}
 use Rattle.stm_machine.specs.Entries.{AreDue, kept_reads}
 use Rattle.stm_machine.specs.Machine.{Parts, IsAt, HasTicketLeft}
 use Rattle.stm_machine.specs.QueueAndIndex.{due_of}
-use Rattle.stm_events.specs.Refusals.{missing, submit_first, submit_refused, cancel_first, cancel_refused}
+use Rattle.stm_events.specs.Refusals.{missing, submit_first, submit_refused, label_first, label_refused, cancel_first, cancel_refused}
 use Rattle.stm_machine.proofs.Due.{IsSame, IsFound, found, below_due}
 use Rattle.stm_machine.proofs.Points.{not_yet}
 use Rattle.stm_machine.proofs.Moves.{stands_submit, stands_cancel}
@@ -106,3 +107,15 @@ moves_cancel m s s' watch' t k e k' q =
     let l : IsLike p.0 (find_waiter t s'.waiters) = like_at m s s' k k' t p.0 p.1 in
     let a : Allows s' (Cancelled t) = rw l.found tt in
     moves_to m _ s' (Cancelled t) k' a (stands_cancel s' m watch' t (rising_at m s' k') k'.stands q)
+
+-- ---- label
+labelled_there : (o : Option Waiter) → label_first o false ≡ None → (w : Waiter) × (o ≡ Some w)
+labelled_there None e = cc
+labelled_there (Some w) e = (w, refl)
+
+pub moves_label : (m : Parts) (s s' : Slow) (t : ℕ) (label : List ℕ) → IsAt m s → is_label label ≡ true → label_refused s false t ≡ None → IsAt m s'
+    → (Allows s' (Labelled t label) × IsAt m (after s' (Labelled t label)))
+moves_label m s s' t label k one e k' =
+    let p = labelled_there (find_waiter t s.waiters) e in
+    let l : IsLike p.0 (find_waiter t s'.waiters) = like_at m s s' k k' t p.0 p.1 in
+    (rw l.found one, k')

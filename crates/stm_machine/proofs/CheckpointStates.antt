@@ -25,6 +25,7 @@ use Rattle.stm_events.proofs.Fresh.{stays}
 use Rattle.stm_waiting.specs.declared.waiting.Held.{Held}
 use Rattle.stm_machine.specs.declared.checkpoint.CheckpointBlock.{CheckpointBlock}
 use Rattle.stm_machine.specs.Checkpoints.{CheckpointView, store_with, since_held, waiter_of, checkpoint_state, IsRightDelivery, AreCheckpointBlocks, IsCheckpoint, CheckpointsArePossible, held_since, block_of_waiter, checkpoint_of, CheckpointsAreUnseen}
+use Rattle.stm_machine.proofs.CheckpointLabels.{no_label_is}
 use Rattle.stm_machine.proofs.Agreeing.{differs_nowhere}
 use Rattle.stm_machine.proofs.Delivery.{none_differs}
 use Rattle.stm_machine.proofs.StoreWith.{has_values, other_value, same_values, same_kinds, not_found, values_fit}
@@ -203,7 +204,7 @@ are_blocks store n k [] rising covered unwoken had typed were = tt
 are_blocks store n k (w ∷ ws) rising covered unwoken had typed were = (
   rising.0,
   rising.1,
-  record { covered = covered.0; typed = typed.0; delivery = right_since store w.block w.since had.0 were.0 unwoken.0 },
+  record { covered = covered.0; typed = typed.0; delivery = right_since store w.block w.since had.0 were.0 unwoken.0; label = no_label_is },
   are_blocks store n w.ticket ws rising.2 covered.1 unwoken.1 had.1 typed.1 were.1,
 )
 

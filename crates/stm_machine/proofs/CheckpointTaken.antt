@@ -10,6 +10,7 @@ use Rattle.stm_check.specs.TypedBlock.{Block}
 use Rattle.stm_queue.specs.Queue.{Entry, has_ticket}
 use Rattle.stm_queue.proofs.Merging.{itself}
 use Rattle.stm_events.specs.declared.staleness.StalenessRule.TheVariants.{Changed}
+use Rattle.stm_events.specs.Labels.{Labels, AreLabels}
 use Rattle.stm_events.specs.Laws.{AreRising}
 use Rattle.stm_events.specs.States.{IsTypedState}
 use Rattle.stm_events.specs.SlowDesk.{Since, Waiter, Slow, is_new_since, is_new, is_current, find_waiter}
@@ -17,12 +18,13 @@ use Rattle.stm_waiting.specs.declared.waiting.Held.{Held}
 use Rattle.stm_waiting.specs.declared.waiting.Waiting.{Waiting}
 use Rattle.stm_waiting.specs.Entries.{kept_at, AllBelow, first_above}
 use Rattle.stm_machine.specs.declared.checkpoint.CheckpointBlock.{CheckpointBlock}
-use Rattle.stm_machine.specs.Checkpoints.{CheckpointView, held_since, block_of_waiter, checkpoint_of, IsCheckpoint, max_next}
+use Rattle.stm_machine.specs.Checkpoints.{CheckpointView, held_since, block_of_waiter, checkpoint_of, labelled_block, with_labels, IsCheckpoint, max_next}
 use Rattle.stm_machine.specs.CheckpointEntries.{EntriesRise, block_of}
 use Rattle.stm_machine.specs.Entries.{IsHeld, IsDue, AreDue}
 use Rattle.stm_machine.specs.Machine.{Parts, IsAt}
 use Rattle.stm_machine.specs.QueueAndIndex.{due_of}
 use Rattle.stm_machine.proofs.BlocksByTicket.{below_more, below_push}
+use Rattle.stm_machine.proofs.CheckpointLabels.{labels_leave_checkpoints}
 use Rattle.stm_machine.proofs.CheckpointStates.{checkpoints_are_unseen}
 use Rattle.stm_machine.proofs.States.{rising_at}
 
@@ -40,8 +42,8 @@ held_not_new b (Some h) None i = absurd i
 held_not_new b (Some h) (Some s) i = refl
 
 block_equal : (t u : ℕ) (b c : Block) (h g : Option Held) (s r : Bool) → t ≡ u → b ≡ c → h ≡ g → s ≡ r
-    → (let x : CheckpointBlock = record { ticket = t; waiting = record { block = b; held = h }; stale = s } in x)
-    ≡ (let y : CheckpointBlock = record { ticket = u; waiting = record { block = c; held = g }; stale = r } in y)
+    → (let x : CheckpointBlock = record { ticket = t; waiting = record { block = b; held = h }; stale = s; label = [] } in x)
+    ≡ (let y : CheckpointBlock = record { ticket = u; waiting = record { block = c; held = g }; stale = r; label = [] } in y)
 block_equal t u b c h g s r e f p q = rw (e, f, p, q) refl
 
 one_block : (pending : List Entry) (e : ℕ × Waiting) (w : Waiter) → IsDue e w → has_ticket e.0 pending ≡ not (is_current w) → block_of pending e ≡ block_of_waiter w
@@ -82,15 +84,20 @@ taken m s k =
     let same = blocks_are m.pending s.next 0 m.entries s.waiters k.stands.entries_are (rising_at m s k) (λ t l. k.stands.queue t) in
     rw (k.stands.store_is, k.stands.names_are, k.stands.next_is, same) refl
 
-pub taken_of : (m : Parts) (s : Slow) (store : List Cell) (names : List Named) (blocks : List CheckpointBlock) → IsAt m s → store ≡ m.store → names ≡ m.names → blocks ≡ map (block_of m.pending) m.entries
-    → (let c : CheckpointView = record { store = store; names = names; next = m.next; blocks = blocks } in c) ≡ checkpoint_of s
-taken_of m s store names blocks k e n f = rw (e, n, f) (taken m s k)
+pub taken_of : (m : Parts) (s : Slow) (labels : Labels) (store : List Cell) (names : List Named) (some blocks : List CheckpointBlock) → IsAt m s → store ≡ m.store → names ≡ m.names → some ≡ map (block_of m.pending) m.entries
+    → blocks ≡ map (labelled_block labels) some → (let c : CheckpointView = record { store = store; names = names; next = m.next; blocks = blocks } in c) ≡ with_labels labels (checkpoint_of s)
+taken_of m s labels store names some blocks k e n f g =
+    let c : CheckpointView = record { store = store; names = names; next = m.next; blocks = some } in
+    let same : c ≡ checkpoint_of s = rw (e, n, f) (taken m s k) in
+    rw g (ap (with_labels labels) same)
 
-pub taken_right : (m : Parts) (s : Slow) (store : List Cell) (names : List Named) (blocks : List CheckpointBlock) → IsAt m s → IsTypedState s → s.rule ≡ Changed → m.next ≤ max_next → IsStore (plains m.store)
-    → store ≡ m.store → names ≡ m.names → blocks ≡ map (block_of m.pending) m.entries → IsCheckpoint (record { store = store; names = names; next = m.next; blocks = blocks })
-taken_right m s store names blocks k typed rule low is_store e n f =
-    subst IsCheckpoint (sym (taken_of m s store names blocks k e n f))
-    (checkpoints_are_unseen s k.possible typed rule (subst (λ (n : ℕ). n ≤ max_next) k.stands.next_is low) (subst (λ (z : List Cell). IsStore (plains z)) k.stands.store_is is_store)).0
+pub taken_right : (m : Parts) (s : Slow) (labels : Labels) (store : List Cell) (names : List Named) (some blocks : List CheckpointBlock) → IsAt m s → AreLabels labels → IsTypedState s → s.rule ≡ Changed → m.next ≤ max_next
+    → IsStore (plains m.store) → store ≡ m.store → names ≡ m.names → some ≡ map (block_of m.pending) m.entries → blocks ≡ map (labelled_block labels) some
+    → IsCheckpoint (record { store = store; names = names; next = m.next; blocks = blocks })
+taken_right m s labels store names some blocks k are typed rule low is_store e n f g =
+    subst IsCheckpoint (sym (taken_of m s labels store names some blocks k e n f g))
+    (labels_leave_checkpoints labels (checkpoint_of s) are
+    (checkpoints_are_unseen s k.possible typed rule (subst (λ (n : ℕ). n ≤ max_next) k.stands.next_is low) (subst (λ (z : List Cell). IsStore (plains z)) k.stands.store_is is_store)).0).0
 
 -- ---- one after another
 pub record IsWalked (pending : List Entry) (all : List (ℕ × Waiting)) (i after : ℕ) (blocks : List CheckpointBlock) : Type 0 where

@@ -10,6 +10,7 @@ pub mod Agreeing
 pub mod BlocksByTicket
 pub mod BlocksInTurn
 pub mod Calls
+pub mod CheckpointLabels
 pub mod CheckpointStates
 pub mod CheckpointTaken
 pub mod Declaring

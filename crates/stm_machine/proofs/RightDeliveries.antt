@@ -11,6 +11,7 @@ use Rattle.stm_check.specs.TypedBlock.{Block}
 use Rattle.stm_eval.specs.Messages.{Agrees, Holds}
 use Rattle.stm_eval.proofs.FragmentsAndStores.{of_the_store, holds_again}
 use Rattle.stm_events.specs.Delivered.{Delivered}
+use Rattle.stm_events.specs.Labels.{is_label}
 use Rattle.stm_events.specs.Laws.{IsWellTyped}
 use Rattle.stm_events.specs.Refusals.{differing}
 use Rattle.stm_events.specs.SlowDesk.{under}
@@ -75,9 +76,10 @@ may_add c b k p one = record {
   blocks = blocks_push c.store c.next 0 c.blocks b k.blocks p.above p.below one;
 }
 
-pub may_add_block : (c : CheckpointView) (t : ℕ) (block : Block) (d : Option Delivered) → IsCheckpoint c → HasPlace c t → Covers (plains c.store) block.uses → IsWellTyped block
-    → IsRightDelivery c.store block (is_stale_delivery d) (option_map held_of d) → MayAdd c (checkpoint_block t block d)
-may_add_block c t block d k p covered typed right = may_add c (checkpoint_block t block d) k p (record { covered = covered; typed = typed; delivery = right })
+pub may_add_block : (c : CheckpointView) (t : ℕ) (block : Block) (d : Option Delivered) (label : List ℕ) → IsCheckpoint c → HasPlace c t → is_label label ≡ true → Covers (plains c.store) block.uses → IsWellTyped block
+    → IsRightDelivery c.store block (is_stale_delivery d) (option_map held_of d) → MayAdd c (checkpoint_block t block d label)
+may_add_block c t block d label k p one covered typed right =
+    may_add c (checkpoint_block t block d label) k p (record { covered = covered; typed = typed; delivery = right; label = one })
 
 pub has_place : (c : CheckpointView) (b : CheckpointBlock) → MayAdd c b → HasPlace c b.ticket
 has_place c b k =

@@ -57,6 +57,6 @@ abbrev pub EntriesRise : ℕ → List (ℕ × Waiting) → Type 0
 EntriesRise k [] = Unit {0}
 EntriesRise k (e ∷ es) = (k < e.0) × EntriesRise e.0 es
 
--- what a machine keeps under a ticket, with these tickets queued or out
+-- what a machine keeps under a ticket, with these tickets queued or out; it keeps no labels
 abbrev pub block_of : List Entry → ℕ × Waiting → CheckpointBlock
-block_of pending e = record { ticket = e.0; waiting = e.1; stale = is_some e.1.held && has_ticket e.0 pending }
+block_of pending e = record { ticket = e.0; waiting = e.1; stale = is_some e.1.held && has_ticket e.0 pending; label = [] }

@@ -1,5 +1,5 @@
 -- A checkpoint: a state that a history may begin from, as it can be kept and written. Of each waiting block it has what its last
--- delivery brought, and whether it is stale.
+-- delivery brought, whether it is stale, and its label.
 use Rattle.std.specs.Prelude.{◌≡◌, ◌≢◌, ℕ, ◌<◌, ◌≤◌, Bool, true, false, not, ◌&&◌, if◌then◌else◌, List, [], ◌∷◌, ◌++◌, map, length, Option, Some, None, option_map}
 use Rattle.stm_terms.specs.declared.kinds.Ty.{Ty}
 use Rattle.stm_terms.specs.declared.values.Value.{Value}
@@ -13,6 +13,7 @@ use Rattle.stm_store.specs.Tables.{Declared, opened}
 use Rattle.stm_check.specs.TypedBlock.{Block}
 use Rattle.stm_eval.specs.Messages.{Holds}
 use Rattle.stm_events.specs.Delivered.{Delivered}
+use Rattle.stm_events.specs.Labels.{Labels, AreLabels, is_label, label_of}
 use Rattle.stm_events.specs.declared.staleness.StalenessRule.{StalenessRule}
 use Rattle.stm_events.specs.declared.staleness.StalenessRule.TheVariants.{Changed}
 use Rattle.stm_events.specs.Laws.{IsWellTyped}
@@ -38,10 +39,15 @@ abbrev pub is_stale_delivery : Option Delivered → Bool
 is_stale_delivery None = false
 is_stale_delivery (Some d) = d.stale
 
--- the block that waits under a ticket, with its last delivery, if there was one
-abbrev pub checkpoint_block : ℕ → Block → Option Delivered → CheckpointBlock
-checkpoint_block t block delivery =
-    record { ticket = t; waiting = record { block = block; held = option_map held_of delivery }; stale = is_stale_delivery delivery }
+-- the block that waits under a ticket, with its last delivery, if there was one, and its label, which is empty if it has none
+abbrev pub checkpoint_block : ℕ → Block → Option Delivered → List ℕ → CheckpointBlock
+checkpoint_block t block delivery label =
+    record {
+      ticket = t;
+      waiting = record { block = block; held = option_map held_of delivery };
+      stale = is_stale_delivery delivery;
+      label = label;
+    }
 
 -- ---- the state
 -- the store with these values of variables written over its own
@@ -80,6 +86,7 @@ pub record IsCheckpointBlock (store : List Cell) (b : CheckpointBlock) : Type 0 
   pub covered : Covers (plains store) b.waiting.block.uses
   pub typed : IsWellTyped b.waiting.block
   pub delivery : IsRightDelivery store b.waiting.block b.stale b.waiting.held
+  pub label : is_label b.label ≡ true
 
 -- these are waiting blocks of one, with tickets above k, each above the one before it, all below n
 abbrev pub AreCheckpointBlocks : List Cell → ℕ → ℕ → List CheckpointBlock → Type 0
@@ -116,13 +123,14 @@ held_since block None = None
 held_since block (Some s) =
     option_map (λ v. record { reads = reads_of (under s.store_then) block.tree; verdict = v }) (verdict_on s.store_then block)
 
--- a waiting block: it is stale if it is neither new nor current
+-- a waiting block: it is stale if it is neither new nor current; a state has no labels
 abbrev pub block_of_waiter : Waiter → CheckpointBlock
 block_of_waiter w =
     record {
       ticket = w.ticket;
       waiting = record { block = w.block; held = held_since w.block w.since };
       stale = not (is_new w) && not (is_current w);
+      label = [];
     }
 
 -- of a state
@@ -134,6 +142,36 @@ abbrev pub CheckpointsAreUnseen : Type 0
 CheckpointsAreUnseen =
     (s : Slow) → IsPossible s → IsTypedState s → s.rule ≡ Changed → s.next ≤ max_next → IsStore (plains s.store)
     → IsCheckpoint (checkpoint_of s) × (observed (checkpoint_state (checkpoint_of s)) ≡ observed s)
+
+-- ---- the labels
+-- a block with the label that it has by these
+abbrev pub labelled_block : Labels → CheckpointBlock → CheckpointBlock
+labelled_block labels b = record b { label = label_of b.ticket labels }
+
+-- a checkpoint whose blocks have these labels
+abbrev pub with_labels : Labels → CheckpointView → CheckpointView
+with_labels labels c = record c { blocks = map (labelled_block labels) c.blocks }
+
+-- a checkpoint whose blocks get labels stays one, of the same state
+abbrev pub LabelsLeaveCheckpoints : Type 0
+LabelsLeaveCheckpoints =
+    (labels : Labels) (c : CheckpointView) → AreLabels labels → IsCheckpoint c
+    → IsCheckpoint (with_labels labels c) × (checkpoint_state (with_labels labels c) ≡ checkpoint_state c)
+
+-- the label of a ticket before others, unless it is empty
+abbrev pub before_labels : ℕ → List ℕ → Labels → Labels
+before_labels t [] ls = ls
+before_labels t (b ∷ bs) ls = (t, b ∷ bs) ∷ ls
+
+-- the labels of these blocks
+abbrev pub labels_in : List CheckpointBlock → Labels
+labels_in [] = []
+labels_in (b ∷ bs) = before_labels b.ticket b.label (labels_in bs)
+
+-- the labels with which a history begins: those of its checkpoint, if it begins from one
+abbrev pub first_labels : Option CheckpointView → Labels
+first_labels None = []
+first_labels (Some c) = labels_in c.blocks
 
 -- ---- where a history begins
 -- with the first values of its variables, or from a checkpoint; a rule is that of a history without one

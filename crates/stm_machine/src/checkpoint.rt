@@ -1,12 +1,13 @@
 //! Checkpoints: states that a history may begin from.
 
-ghost use Rattle.std.specs.Prelude.{◌≡◌, ◌≢◌, ℕ, ◌<◌, ◌≤◌, ◌++◌, ◌∷◌, [], false, true, IfOk, OnOk, OnErr, IsErrOf, IsTrue, ◌↔◌};
+ghost use Rattle.std.specs.Prelude.{◌≡◌, ◌≢◌, ℕ, ◌<◌, ◌≤◌, ◌++◌, ◌∷◌, [], false, true, map, IfOk, OnOk, OnErr, IsErrOf, IsTrue, ◌↔◌};
 ghost use Rattle.stm_store.specs.Cells.{plains, Covers, StoreIsTyped};
 ghost use Rattle.stm_store.specs.Naming.{named_uses};
+ghost use Rattle.stm_events.specs.Labels.{AreLabels};
 ghost use Rattle.stm_events.specs.SlowDesk.{Slow};
 ghost use Rattle.stm_events.specs.States.{IsTypedState};
 ghost use Rattle.stm_events.specs.declared.staleness.StalenessRule.{StalenessRule as AnyRule};
-ghost use Rattle.stm_machine.specs.Checkpoints.{IsCheckpoint, CheckpointsArePossible, CheckpointsAreUnseen, checkpoint_of, MayAdd, checkpoint_block, checkpoint_state, max_next};
+ghost use Rattle.stm_machine.specs.Checkpoints.{IsCheckpoint, CheckpointsArePossible, CheckpointsAreUnseen, LabelsLeaveCheckpoints, checkpoint_of, labelled_block, with_labels, MayAdd, checkpoint_block, checkpoint_state, max_next};
 ghost use Rattle.stm_machine.specs.CheckpointEntries.{HasPlace, last_ticket};
 ghost use Rattle.stm_machine.specs.Machine.{IsAt};
 ghost use Rattle.stm_machine.specs.SettleChoices.{some_out};
@@ -18,6 +19,9 @@ use std::alloc::Global;
 use std::marker::Model;
 use stm_check::SharedBlock;
 use stm_events::delivery::Delivery;
+use stm_events::label::is_label;
+use stm_events::label_table::LabelTable;
+use stm_events::shared_name::SharedName;
 use stm_events::staleness::StalenessRule;
 use stm_store::{Names, Store};
 use stm_terms::NoMemory;
@@ -32,6 +36,8 @@ pub struct CheckpointBlock {
     pub waiting: Waiting,
     /// Whether the block is stale. A new one isn't.
     pub stale: bool,
+    /// Its label; the empty text if it has none.
+    pub label: SharedName,
 }
 
 /// A state that a history may begin from: the store, the next ticket, and the waiting blocks.
@@ -110,6 +116,39 @@ fn last_ticket(blocks: &[CheckpointBlock]) -> u32
     }
 }
 
+/// The block with the label that it has by a table.
+fn labelled(block: CheckpointBlock, labels: &LabelTable) -> Result<CheckpointBlock, NoMemory>
+    ensures { IfOk result (λ b. b ≡ labelled_block labels.now block) }
+{
+    let CheckpointBlock {
+        ticket,
+        waiting,
+        stale,
+        label: _,
+    } = block;
+    Ok(CheckpointBlock {
+        ticket,
+        waiting,
+        stale,
+        label: labels.shared(ticket)?,
+    })
+}
+
+/// The blocks with the labels that they have by a table.
+fn all_labelled(
+    alloc: Global,
+    blocks: Vec<CheckpointBlock>,
+    labels: &LabelTable,
+) -> Result<Vec<CheckpointBlock>, NoMemory>
+    ensures { IfOk result (λ bs. bs.items ≡ map (labelled_block labels.now) blocks.items) }
+{
+    let mut all = Vec::new(alloc);
+    for block in blocks {
+        push_block(&mut all, labelled(block, labels)?)?;
+    }
+    Ok(all)
+}
+
 fn push_block(blocks: &mut Vec<CheckpointBlock>, block: CheckpointBlock) -> Result<(), NoMemory>
     ensures ok { OnOk result (blocks.new.items ≡ blocks.old.items ++ block ∷ []) }
     ensures err { OnErr result (blocks.new.items ≡ blocks.old.items) }
@@ -141,41 +180,46 @@ impl Checkpoint {
         }
     }
 
-    /// Adds a waiting block after the others, with what its last delivery brought if there was one. Runs the block on what it read
-    /// to see that the delivery is right.
+    /// Adds a waiting block after the others, with what its last delivery brought if there was one, and its label. Runs the block on
+    /// what it read to see that the delivery is right.
     pub fn add(
         &mut self,
         alloc: Global,
         ticket: u32,
         block: SharedBlock,
         delivery: Option<Delivery>,
+        label: SharedName,
     ) -> Result<(), AddError>
         ensures added { OnOk result (self.new
-            ≡ record self.old { blocks = self.old.blocks ++ checkpoint_block ticket block delivery ∷ [] }) }
-        ensures may { OnOk result (MayAdd self.old (checkpoint_block ticket block delivery)) }
+            ≡ record self.old { blocks = self.old.blocks ++ checkpoint_block ticket block delivery label ∷ [] }) }
+        ensures may { OnOk result (MayAdd self.old (checkpoint_block ticket block delivery label)) }
         ensures refused { IsErrOf result AddError.NotPossible
-            → MayAdd self.old (checkpoint_block ticket block delivery) → ⊥ }
+            → MayAdd self.old (checkpoint_block ticket block delivery label) → ⊥ }
         ensures err { OnErr result (self.new ≡ self.old) }
     {
-        let block = self.checked(alloc, ticket, block, delivery)?;
+        let block = self.checked(alloc, ticket, block, delivery, label)?;
         push_block(&mut self.blocks, block)?;
         Ok(())
     }
 
-    /// The block with its last delivery; `NotPossible` if it can't be added.
+    /// The block with its last delivery and its label; `NotPossible` if it can't be added.
     fn checked(
         &self,
         alloc: Global,
         ticket: u32,
         block: SharedBlock,
         delivery: Option<Delivery>,
+        label: SharedName,
     ) -> Result<CheckpointBlock, AddError>
-        ensures block { IfOk result (λ b. b ≡ checkpoint_block ticket block delivery) }
-        ensures may { OnOk result (MayAdd self.now (checkpoint_block ticket block delivery)) }
+        ensures block { IfOk result (λ b. b ≡ checkpoint_block ticket block delivery label) }
+        ensures may { OnOk result (MayAdd self.now (checkpoint_block ticket block delivery label)) }
         ensures refused { IsErrOf result AddError.NotPossible
-            → MayAdd self.now (checkpoint_block ticket block delivery) → ⊥ }
+            → MayAdd self.now (checkpoint_block ticket block delivery label) → ⊥ }
     {
         if !self.has_place(ticket) {
+            return Err(AddError::NotPossible);
+        }
+        if !is_label(label.as_str()) {
             return Err(AddError::NotPossible);
         }
         if !self.store.covers(block.block().uses()) {
@@ -183,7 +227,7 @@ impl Checkpoint {
         }
         // The block is known to be well typed by this.
         let _action = block.block().action();
-        last_delivery(alloc, &self.store, ticket, block, delivery)
+        last_delivery(alloc, &self.store, ticket, block, delivery, label)
     }
 
     /// Whether one block more may wait, under this ticket.
@@ -226,11 +270,17 @@ impl Checkpoint {
 }
 
 impl Machine {
-    /// A checkpoint of the present state. It goes over all waiting blocks and shares their texts; the store is shared until it
-    /// changes.
-    pub fn checkpoint(&self, alloc: Global) -> Result<Checkpoint, CheckpointError>
-        requires { (s : Slow) × IsAt self.now s × IsTypedState s × (s.rule ≡ AnyRule.Changed) }
-        ensures taken { IfOk result (λ c. (s : Slow) → IsAt self.now s → c ≡ checkpoint_of s) }
+    /// A checkpoint of the present state, whose blocks have these labels. It goes over all waiting blocks and shares their texts; the
+    /// store is shared until it changes.
+    pub fn checkpoint(
+        &self,
+        alloc: Global,
+        labels: &LabelTable,
+    ) -> Result<Checkpoint, CheckpointError>
+        requires at { (s : Slow) × IsAt self.now s × IsTypedState s × (s.rule ≡ AnyRule.Changed) }
+        requires labels { AreLabels labels.now }
+        ensures taken { IfOk result (λ c. (s : Slow) → IsAt self.now s
+            → c ≡ with_labels labels.now (checkpoint_of s)) }
         ensures room { OnOk result (self.now.next ≤ max_next) }
         ensures full { IsErrOf result CheckpointError.TicketsFull → max_next < self.now.next }
         ensures no_memory { IsErrOf result CheckpointError.NoMemory → self.now.next ≤ max_next }
@@ -244,7 +294,11 @@ impl Machine {
             store: self.store.share()?,
             names: self.names.copy(alloc)?,
             next: self.next,
-            blocks: waiting_blocks(alloc, &self.waiting, &self.pending)?,
+            blocks: all_labelled(
+                alloc,
+                waiting_blocks(alloc, &self.waiting, &self.pending)?,
+                labels,
+            )?,
         })
     }
 
@@ -272,6 +326,11 @@ impl Machine {
 /// Events may go on from the state of a checkpoint.
 pub fn checkpoints_are_possible()
     ensures { CheckpointsArePossible }
+{}
+
+/// A checkpoint whose blocks get labels stays one, of the same state.
+pub fn labels_leave_checkpoints()
+    ensures { LabelsLeaveCheckpoints }
 {}
 
 /// What is observed of a state is also observed of its checkpoint's state.

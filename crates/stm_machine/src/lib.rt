@@ -12,6 +12,7 @@ pub mod deliver;
 pub mod evaluation;
 pub mod finish;
 mod index;
+pub mod label;
 pub mod machine;
 pub mod queries;
 pub mod queue;

@@ -10,6 +10,7 @@ ghost use Rattle.stm_machine.specs.SettleChoices.{some_out};
 
 use crate::checkpoint::CheckpointBlock;
 use std::alloc::Global;
+use stm_events::SharedName;
 use stm_queue::Pending;
 use stm_terms::NoMemory;
 use stm_waiting::{Held, TicketSet, Waiting, WaitingBlocks};
@@ -54,6 +55,7 @@ fn block_under(
         ticket,
         waiting: share_waiting(waiting)?,
         stale: waiting.held.is_some() && pending.has(ticket),
+        label: SharedName::none(),
     })
 }
 

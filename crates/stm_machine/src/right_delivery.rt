@@ -14,6 +14,7 @@ use std::alloc::Global;
 use stm_check::{SharedBlock, Typed};
 use stm_eval::try_block;
 use stm_events::delivery::Delivery;
+use stm_events::shared_name::SharedName;
 use stm_log::Reads;
 use stm_store::{Frozen, Store};
 use stm_terms::NoMemory;
@@ -138,16 +139,17 @@ fn right_reads(
     }
 }
 
-/// A block of a checkpoint with its last delivery, if there was one; `NotPossible` if the delivery isn't right.
+/// A block of a checkpoint with its last delivery, if there was one, and its label; `NotPossible` if the delivery isn't right.
 pub(crate) fn last_delivery(
     alloc: Global,
     store: &Store,
     ticket: u32,
     block: SharedBlock,
     delivery: Option<Delivery>,
+    label: SharedName,
 ) -> Result<CheckpointBlock, AddError>
     requires { Covers (plains store.now) block.uses }
-    ensures block { IfOk result (λ b. b ≡ checkpoint_block ticket block delivery) }
+    ensures block { IfOk result (λ b. b ≡ checkpoint_block ticket block delivery label) }
     ensures right { OnOk result
         (IsRightDelivery store.now block (is_stale_delivery delivery) (option_map held_of delivery)) }
     ensures refused { IsErrOf result AddError.NotPossible
@@ -158,6 +160,7 @@ pub(crate) fn last_delivery(
             ticket,
             waiting: Waiting { block, held: None },
             stale: false,
+            label,
         }),
         Some(delivery) => {
             let reads = right_reads(alloc, store, block.block(), &delivery)?;
@@ -169,6 +172,7 @@ pub(crate) fn last_delivery(
                     held: Some(Held { reads, verdict }),
                 },
                 stale: delivery.is_stale(),
+                label,
             })
         }
     }

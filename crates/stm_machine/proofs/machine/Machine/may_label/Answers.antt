@@ -1,0 +1,20 @@
+use Rattle.std.proofs.Common.{◌≡◌, ◌∙◌, Some, None, refl, sym, ap, subst}
+use Rattle.std.specs.Option.{option_copied}
+use Rattle.stm_waiting.specs.Entries.{kept_at}
+use Rattle.stm_machine.specs.Machine.{Parts, IsAt}
+use Rattle.stm_machine.proofs.Calls.{waits, lost}
+use Rattle.stm_machine.proofs.machine.Machine.may_label.Goals as goal
+
+pub returns-in-None : goal.returns-in-None
+returns-in-None c = λ s h.
+    let k = subst (λ (m : Parts). IsAt m s) (sym c.self.view_is) h in
+    let e : kept_at c.args.ticket c.self.inside.waiting ≡ None = sym c.get.ensures ∙ ap option_copied c.in-None.is in
+    let n = lost c.args.ticket c.self.inside.waiting _ k.stands.entries_are e in
+    rw n refl
+
+pub returns-in-Some : goal.returns-in-Some
+returns-in-Some c = λ s h.
+    let k = subst (λ (m : Parts). IsAt m s) (sym c.self.view_is) h in
+    let e : kept_at c.args.ticket c.self.inside.waiting ≡ Some c.in-Some.field-0.now = sym c.get.ensures ∙ ap option_copied c.in-Some.is in
+    let p = waits c.args.ticket _ c.self.inside.waiting _ k.stands.entries_are e in
+    rw p.found tt
