@@ -1,28 +1,30 @@
 -- The lines of a checkpoint: each is one line, begins with a brace, reads back, and is of one content only.
-use Rattle.std.proofs.Common.{◌≡◌, ◌≢◌, inl, inr, ℕ, ◌<◌, ◌^◌, List, true, false, Option, Some, None, Ok, refl, sym, ap, arith, codes}
-use Rattle.std.specs.Prelude.{option_and_then}
+use Rattle.std.proofs.Common.{◌≡◌, ◌≢◌, inl, inr, ℕ, ◌<◌, ◌^◌, List, [], ◌∷◌, true, false, Option, Some, None, Ok, refl, sym, ap, arith, codes, eqb-true}
+use Rattle.std.specs.Prelude.{option_and_then, length}
+use Rattle.std.specs.Bool.{◌==◌}
 use Rattle.std.specs.Str.{IsUtf8}
 use Rattle.json.proofs.Printed.Decimals.{IsNumber-decimal}
-use Rattle.serde_json.specs.Data.{Data}
+use Rattle.serde_json.specs.Data.{Data, string, object, member}
 use Rattle.serde_json.specs.Find.{get}
 use Rattle.serde_json.specs.Read.{read}
-use Rattle.serde_json.specs.Written.{compact_text, has_float}
+use Rattle.serde_json.specs.Written.{has_float}
 use Rattle.serde_json.proofs.Numbers.{number_of-decimal}
 use Rattle.stm_store.specs.declared.cell.Cell.{Cell}
 use Rattle.stm_store.specs.Naming.{Named}
 use Rattle.stm_check.specs.TypedBlock.{Block}
 use Rattle.stm_events.specs.Delivered.{Delivered}
+use Rattle.stm_events.specs.Labels.{is_label}
 use Rattle.stm_event_lines.specs.declared.checkpoint.CheckpointHeader.{CheckpointHeader}
 use Rattle.stm_event_lines.specs.declared.checkpoint.WaitingBlock.{WaitingBlock}
 use Rattle.stm_event_lines.specs.CheckpointFields.{is_checkpoint_format, checkpoint_header_of, checkpoint_header_in, cell_of, waiting_of}
-use Rattle.stm_event_lines.specs.CheckpointLines.{IsCheckpointFormat, checkpoint_header_data, checkpoint_header_line, name_data, cell_data, cell_line, waiting_data, waiting_line, FitsName, FitsCell, FitsDelivery, FitsWaiting}
+use Rattle.stm_event_lines.specs.CheckpointLines.{IsCheckpointFormat, checkpoint_header_data, checkpoint_header_line, name_data, cell_data, cell_line, delivery_members, waiting_data, waiting_line, FitsName, FitsCell, FitsDelivery, FitsWaiting}
 use Rattle.stm_event_lines.specs.Fields.{write_of, block_of_text}
 use Rattle.stm_event_lines.specs.Fits.{Is32Bit, FitsValue, IsOneLine, BeginsWithBrace}
 use Rattle.stm_event_lines.specs.Lines.{IsFormat, number_data, write_data, header_data, header_line}
 use Rattle.stm_event_lines.specs.WholeBlocks.{checked_block}
 use Rattle.stm_event_lines.proofs.Exact.{value_exact, writes_exact, verdict_exact}
-use Rattle.stm_event_lines.proofs.OneLines.{IsInRange}
-use Rattle.stm_event_lines.proofs.Ranges.{own_text, ascii_type, ascii_name, ascii_block, value_in_range, writes_in_range, verdict_in_range}
+use Rattle.stm_event_lines.proofs.OneLines.{IsInRange, MembersInRange}
+use Rattle.stm_event_lines.proofs.Ranges.{own_text, ascii_type, ascii_name, ascii_label, ascii_block, value_in_range, writes_in_range, verdict_in_range}
 use Rattle.stm_event_lines.proofs.ReadsBack.{ReadsBack, reads_of, unread, same_data, in_32, value_back, writes_back, verdict_back, header_reads}
 use Rattle.stm_event_lines.proofs.RoundTrips.{RoundTrips, number_round_trips, string_round_trips, value_round_trips, writes_round_trips, verdict_round_trips, array_round_trips, all_back}
 use Rattle.stm_event_lines.proofs.Types.{type_back}
@@ -39,8 +41,26 @@ name_exact None = refl
 pub cell_exact : (name : Option (List ℕ)) (c : Cell) → has_float (cell_data name c) ≡ false
 cell_exact name c = rw (value_exact c.value, name_exact name)
 
-pub delivered_exact : (ticket : ℕ) (text : List ℕ) (d : Delivered) → has_float (waiting_data ticket text (Some d)) ≡ false
-delivered_exact ticket text d = rw (writes_exact d.reads, verdict_exact d.verdict)
+pub waiting_exact : (ticket : ℕ) (text label : List ℕ) (d : Option Delivered) → has_float (waiting_data ticket text label d) ≡ false
+waiting_exact ticket text [] None = refl
+waiting_exact ticket text (b ∷ bs) None = refl
+waiting_exact ticket text [] (Some d) = rw (writes_exact d.reads, verdict_exact d.verdict)
+waiting_exact ticket text (b ∷ bs) (Some d) = rw (writes_exact d.reads, verdict_exact d.verdict)
+
+-- a label that isn't empty is a member, and an empty one is none
+pub with_label : (P : Data → Type 0) (ticket : ℕ) (text label : List ℕ) (d : Option Delivered) → label ≢ []
+    → P (object (member (codes "block") (string text) (member (codes "label") (string label) (delivery_members ticket d)))) → P (waiting_data ticket text label d)
+with_label P ticket text [] d n p = absurd (n refl)
+with_label P ticket text (b ∷ bs) d n p = p
+
+pub empty_is : (xs : List ℕ) → (length xs == 0) ≡ true → [] ≡ xs
+empty_is [] e = refl
+empty_is (x ∷ xs) e = let none : length (x ∷ xs) ≡ 0 = eqb-true (length (x ∷ xs)) 0 e in absurd (omega arith)
+
+-- no label is one
+pub no_label : is_label [] ≡ true
+unfolding is_label
+no_label = refl
 
 -- ---- read as themselves
 
@@ -66,11 +86,17 @@ cell_round_trips name c h k =
     let v = value_round_trips c.value h in let n = name_round_trips name in let m = count_round_trips 0 c.count k in
     record { numbers = (m.numbers, (v.numbers, (n.numbers, (tt, tt)))); back = rw (m.back, v.back, n.back); shallow = omega (arith, v.shallow, n.shallow); exact = rw (v.exact, n.exact) }
 
-waiting_round_trips : (ticket : ℕ) (text : List ℕ) (d : Option Delivered) → Is32Bit ticket → FitsDelivery d → RoundTrips 6 (waiting_data ticket text d)
-waiting_round_trips ticket text None k h =
+waiting_round_trips : (ticket : ℕ) (text label : List ℕ) (d : Option Delivered) → Is32Bit ticket → FitsDelivery d → RoundTrips 6 (waiting_data ticket text label d)
+waiting_round_trips ticket text [] None k h =
     let t = number_round_trips 0 ticket k in
     record { numbers = (tt, (t.numbers, tt)); back = rw t.back; shallow = omega arith; exact = refl }
-waiting_round_trips ticket text (Some d) k h =
+waiting_round_trips ticket text (b ∷ bs) None k h =
+    let t = number_round_trips 0 ticket k in
+    record { numbers = (tt, (tt, (t.numbers, tt))); back = rw t.back; shallow = omega arith; exact = refl }
+waiting_round_trips ticket text (b ∷ bs) (Some d) k h =
+    let t = number_round_trips 0 ticket k in let r = array_round_trips 2 _ (writes_round_trips d.reads h.0) in let o = verdict_round_trips d.verdict h.1 in
+    record { numbers = (tt, (tt, (r.numbers, (tt, (t.numbers, (o.numbers, tt)))))); back = rw (r.back, t.back, o.back); shallow = omega (arith, r.shallow, o.shallow); exact = rw (r.exact, o.exact) }
+waiting_round_trips ticket text [] (Some d) k h =
     let t = number_round_trips 0 ticket k in let r = array_round_trips 2 _ (writes_round_trips d.reads h.0) in let o = verdict_round_trips d.verdict h.1 in
     record { numbers = (tt, (r.numbers, (tt, (t.numbers, (o.numbers, tt))))); back = rw (r.back, t.back, o.back); shallow = omega (arith, r.shallow, o.shallow); exact = rw (r.exact, o.exact) }
 
@@ -83,11 +109,13 @@ name_in_range None h = tt
 cell_in_range : (name : Option (List ℕ)) (c : Cell) → FitsCell name c → IsInRange (cell_data name c)
 cell_in_range name c f = (refl, f.3, (refl, value_in_range c.value f.2, (refl, name_in_range name f.0, (refl, ascii_type c.kind, tt))))
 
-waiting_in_range : (known : List Named) (ticket : ℕ) (b : Block) (d : Option Delivered) → FitsWaiting known ticket b d → IsInRange (waiting_data ticket b.text d)
-waiting_in_range known ticket b None f = (refl, ascii_block known b.text b f.1, (refl, omega (arith, f.0), tt))
-waiting_in_range known ticket b (Some d) f =
-    let given = f.2 in
-    (refl, ascii_block known b.text b f.1, (refl, writes_in_range d.reads given.0, (refl, tt, (refl, omega (arith, f.0), (refl, verdict_in_range d.verdict given.1, tt)))))
+delivery_in_range : (ticket : ℕ) (d : Option Delivered) → Is32Bit ticket → FitsDelivery d → MembersInRange (delivery_members ticket d)
+delivery_in_range ticket None k h = (refl, omega (arith, k), tt)
+delivery_in_range ticket (Some d) k h = (refl, writes_in_range d.reads h.0, (refl, tt, (refl, omega (arith, k), (refl, verdict_in_range d.verdict h.1, tt))))
+
+waiting_in_range : (known : List Named) (ticket : ℕ) (b : Block) (label : List ℕ) (d : Option Delivered) → FitsWaiting known ticket b label d → IsInRange (waiting_data ticket b.text label d)
+waiting_in_range known ticket b [] d f = (refl, ascii_block known b.text b f.1, delivery_in_range ticket d f.0 f.2)
+waiting_in_range known ticket b (x ∷ xs) d f = (refl, ascii_block known b.text b f.1, (refl, ascii_label (x ∷ xs) f.3, delivery_in_range ticket d f.0 f.2))
 
 -- ---- their texts
 
@@ -100,8 +128,8 @@ checkpoint_header_reads format next vars waiting k h i j =
 cell_reads : (name : Option (List ℕ)) (c : Cell) → FitsCell name c → ReadsBack (cell_data name c)
 cell_reads name c f = reads_of (cell_data name c) (cell_round_trips name c f.2 f.3) (cell_in_range name c f)
 
-waiting_reads : (known : List Named) (ticket : ℕ) (b : Block) (d : Option Delivered) → FitsWaiting known ticket b d → ReadsBack (waiting_data ticket b.text d)
-waiting_reads known ticket b d f = reads_of (waiting_data ticket b.text d) (waiting_round_trips ticket b.text d f.0 f.2) (waiting_in_range known ticket b d f)
+waiting_reads : (known : List Named) (ticket : ℕ) (b : Block) (label : List ℕ) (d : Option Delivered) → FitsWaiting known ticket b label d → ReadsBack (waiting_data ticket b.text label d)
+waiting_reads known ticket b label d f = reads_of (waiting_data ticket b.text label d) (waiting_round_trips ticket b.text label d f.0 f.2) (waiting_in_range known ticket b label d f)
 
 -- ---- their fields
 
@@ -112,10 +140,16 @@ cell_back : (name : Option (List ℕ)) (c : Cell) → FitsCell name c → cell_o
 cell_back (Some name) c f = rw (value_back c.value f.2, type_back c.kind f.1)
 cell_back None c f = rw (value_back c.value f.2, type_back c.kind f.1)
 
-waiting_back : (known : List Named) (ticket : ℕ) (b : Block) (d : Option Delivered) → FitsWaiting known ticket b d → waiting_of known (waiting_data ticket b.text d) ≡ Some (record { ticket = ticket; block = b; delivery = d })
-waiting_back known ticket b None f = rw (in_32 ticket f.0, f.1)
-waiting_back known ticket b (Some d) f =
+waiting_back : (known : List Named) (ticket : ℕ) (b : Block) (label : List ℕ) (d : Option Delivered) → FitsWaiting known ticket b label d
+    → waiting_of known (waiting_data ticket b.text label d) ≡ Some (record { ticket = ticket; block = b; label = label; delivery = d })
+waiting_back known ticket b [] None f = rw (in_32 ticket f.0, f.1)
+waiting_back known ticket b (x ∷ xs) None f = let one : is_label (x ∷ xs) ≡ true = f.3 in rw (in_32 ticket f.0, f.1, one)
+waiting_back known ticket b [] (Some d) f =
     let given = f.2 in rw (in_32 ticket f.0, f.1, verdict_back d.verdict given.1, all_back write_of write_data d.reads (writes_back d.reads given.0))
+waiting_back known ticket b (x ∷ xs) (Some d) f =
+    let given = f.2 in
+    let one : is_label (x ∷ xs) ≡ true = f.3 in
+    rw (in_32 ticket f.0, f.1, one, verdict_back d.verdict given.1, all_back write_of write_data d.reads (writes_back d.reads given.0))
 
 -- ---- what a line is that was read
 
@@ -142,11 +176,11 @@ pub cell_is : (line : List ℕ) (name : Option (List ℕ)) (c : Cell) (g : Data)
 unfolding cell_line
 cell_is line name c g f l some = let same : g ≡ cell_data name c = same_data line (cell_data name c) g (cell_reads name c f) l some in rw same (cell_back name c f)
 
-pub waiting_is : (known : List Named) (line : List ℕ) (ticket : ℕ) (b : Block) (d : Option Delivered) (g : Data) → FitsWaiting known ticket b d → waiting_line ticket b.text d ≡ line → read line ≡ Some g
-    → waiting_of known g ≡ Some (record { ticket = ticket; block = b; delivery = d })
+pub waiting_is : (known : List Named) (line : List ℕ) (ticket : ℕ) (b : Block) (label : List ℕ) (d : Option Delivered) (g : Data) → FitsWaiting known ticket b label d → waiting_line ticket b.text label d ≡ line → read line ≡ Some g
+    → waiting_of known g ≡ Some (record { ticket = ticket; block = b; label = label; delivery = d })
 unfolding waiting_line
-waiting_is known line ticket b d g f l some =
-    let same : g ≡ waiting_data ticket b.text d = same_data line (waiting_data ticket b.text d) g (waiting_reads known ticket b d f) l some in rw same (waiting_back known ticket b d f)
+waiting_is known line ticket b label d g f l some =
+    let same : g ≡ waiting_data ticket b.text label d = same_data line (waiting_data ticket b.text label d) g (waiting_reads known ticket b label d f) l some in rw same (waiting_back known ticket b label d f)
 
 pub checkpoint_header_unread : (line : List ℕ) (format next vars waiting : ℕ) → IsCheckpointFormat format → Is32Bit next → Is32Bit vars → Is32Bit waiting → checkpoint_header_line format next vars waiting ≡ line → (IsUtf8 line → read line ≡ None) → ⊥
 unfolding checkpoint_header_line
@@ -156,9 +190,9 @@ pub cell_unread : (line : List ℕ) (name : Option (List ℕ)) (c : Cell) → Fi
 unfolding cell_line
 cell_unread line name c f l none = unread line (cell_data name c) (cell_reads name c f) l none
 
-pub waiting_unread : (known : List Named) (line : List ℕ) (ticket : ℕ) (b : Block) (d : Option Delivered) → FitsWaiting known ticket b d → waiting_line ticket b.text d ≡ line → (IsUtf8 line → read line ≡ None) → ⊥
+pub waiting_unread : (known : List Named) (line : List ℕ) (ticket : ℕ) (b : Block) (label : List ℕ) (d : Option Delivered) → FitsWaiting known ticket b label d → waiting_line ticket b.text label d ≡ line → (IsUtf8 line → read line ≡ None) → ⊥
 unfolding waiting_line
-waiting_unread known line ticket b d f l none = unread line (waiting_data ticket b.text d) (waiting_reads known ticket b d f) l none
+waiting_unread known line ticket b label d f l none = unread line (waiting_data ticket b.text label d) (waiting_reads known ticket b label d f) l none
 
 -- ---- a block that was read
 
@@ -177,9 +211,9 @@ pub cell_one_line : (name : Option (List ℕ)) (c : Cell) → FitsCell name c �
 unfolding cell_line
 cell_one_line name c f = (cell_reads name c f).one_line
 
-pub waiting_one_line : (known : List Named) (ticket : ℕ) (b : Block) (d : Option Delivered) → FitsWaiting known ticket b d → IsOneLine (waiting_line ticket b.text d)
+pub waiting_one_line : (known : List Named) (ticket : ℕ) (b : Block) (label : List ℕ) (d : Option Delivered) → FitsWaiting known ticket b label d → IsOneLine (waiting_line ticket b.text label d)
 unfolding waiting_line
-waiting_one_line known ticket b d f = (waiting_reads known ticket b d f).one_line
+waiting_one_line known ticket b label d f = (waiting_reads known ticket b label d f).one_line
 
 pub checkpoint_header_brace : (format next vars waiting : ℕ) → BeginsWithBrace (checkpoint_header_line format next vars waiting)
 unfolding checkpoint_header_line
@@ -189,13 +223,9 @@ pub cell_brace : (name : Option (List ℕ)) (c : Cell) → BeginsWithBrace (cell
 unfolding cell_line
 cell_brace name c = (_, refl)
 
-waiting_data_brace : (ticket : ℕ) (text : List ℕ) (d : Option Delivered) → BeginsWithBrace (compact_text (waiting_data ticket text d))
-waiting_data_brace ticket text None = (_, refl)
-waiting_data_brace ticket text (Some d) = (_, refl)
-
-pub waiting_brace : (ticket : ℕ) (text : List ℕ) (d : Option Delivered) → BeginsWithBrace (waiting_line ticket text d)
+pub waiting_brace : (ticket : ℕ) (text label : List ℕ) (d : Option Delivered) → BeginsWithBrace (waiting_line ticket text label d)
 unfolding waiting_line
-waiting_brace ticket text d = waiting_data_brace ticket text d
+waiting_brace ticket text label d = (_, refl)
 
 -- different first lines say different numbers
 one_header : (o : Option CheckpointHeader) (g h : CheckpointHeader) → o ≡ Some g → o ≡ Some h → g ≡ h
@@ -228,17 +258,17 @@ cell_same name name' c c' f f' l =
 one_waiting : (o : Option WaitingBlock) (g h : WaitingBlock) → o ≡ Some g → o ≡ Some h → g ≡ h
 one_waiting o g h a b = cc
 
-pub waiting_same : (known : List Named) (ticket ticket' : ℕ) (b b' : Block) (d d' : Option Delivered) → FitsWaiting known ticket b d → FitsWaiting known ticket' b' d' → waiting_line ticket b.text d ≡ waiting_line ticket' b'.text d'
-    → (ticket ≡ ticket') × (b ≡ b') × (d ≡ d')
+pub waiting_same : (known : List Named) (ticket ticket' : ℕ) (b b' : Block) (label label' : List ℕ) (d d' : Option Delivered) → FitsWaiting known ticket b label d → FitsWaiting known ticket' b' label' d'
+    → waiting_line ticket b.text label d ≡ waiting_line ticket' b'.text label' d' → (ticket ≡ ticket') × (b ≡ b') × (label ≡ label') × (d ≡ d')
 unfolding waiting_line
-waiting_same known ticket ticket' b b' d d' f f' l =
-    let g = waiting_data ticket' b'.text d' in
-    let w : WaitingBlock = record { ticket = ticket; block = b; delivery = d } in
-    let w' : WaitingBlock = record { ticket = ticket'; block = b'; delivery = d' } in
-    let a : waiting_of known g ≡ Some w' = waiting_back known ticket' b' d' f' in
-    let e : waiting_of known g ≡ Some w = waiting_is known (waiting_line ticket' b'.text d') ticket b d g f l (waiting_reads known ticket' b' d' f').back in
+waiting_same known ticket ticket' b b' label label' d d' f f' l =
+    let g = waiting_data ticket' b'.text label' d' in
+    let w : WaitingBlock = record { ticket = ticket; block = b; label = label; delivery = d } in
+    let w' : WaitingBlock = record { ticket = ticket'; block = b'; label = label'; delivery = d' } in
+    let a : waiting_of known g ≡ Some w' = waiting_back known ticket' b' label' d' f' in
+    let e : waiting_of known g ≡ Some w = waiting_is known (waiting_line ticket' b'.text label' d') ticket b label d g f l (waiting_reads known ticket' b' label' d' f').back in
     let same : w ≡ w' = one_waiting _ w w' e a in
-    (ap (λ (x : WaitingBlock). x.ticket) same, ap (λ (x : WaitingBlock). x.block) same, ap (λ (x : WaitingBlock). x.delivery) same)
+    (ap (λ (x : WaitingBlock). x.ticket) same, ap (λ (x : WaitingBlock). x.block) same, ap (λ (x : WaitingBlock). x.label) same, ap (λ (x : WaitingBlock). x.delivery) same)
 
 -- a first line of a checkpoint is none of the formats that begin from a table
 pub checkpoint_header_new : (format' next vars waiting format n : ℕ) → IsCheckpointFormat format' → Is32Bit next → Is32Bit vars → Is32Bit waiting → IsFormat format → Is32Bit n → checkpoint_header_line format' next vars waiting ≢ header_line format n

@@ -14,7 +14,7 @@ use Rattle.stm_terms.specs.declared.verdicts.Verdict.TheVariants.{Commits, Throw
 use Rattle.stm_store.specs.Tables.{Declared}
 use Rattle.stm_events.specs.declared.event.Event.{Event}
 use Rattle.stm_events.specs.declared.event.What.{What}
-use Rattle.stm_events.specs.declared.event.What.TheVariants.{Submitted, Installed, Finished, Cancelled, Declared as DeclaredLate}
+use Rattle.stm_events.specs.declared.event.What.TheVariants.{Submitted, Installed, Finished, Cancelled, Declared as DeclaredLate, Labelled}
 use Rattle.stm_event_lines.specs.Lines.{number_data, value_data, write_data, new_data, verdict_data, what_data, event_data, variable_data}
 
 int : (z : ℤ) → is_float (of_integer z) ≡ false
@@ -52,6 +52,7 @@ what_exact client (Installed ticket v) = rw (verdict_exact v)
 what_exact client (Finished ticket v n stale) = rw (numbers_exact stale, verdict_exact v)
 what_exact client (Cancelled ticket) = refl
 what_exact client (DeclaredLate name kind value) = rw (value_exact value)
+what_exact client (Labelled ticket label) = refl
 
 pub event_exact : (e : Event) → has_float (event_data e) ≡ false
 event_exact e = what_exact e.client e.what

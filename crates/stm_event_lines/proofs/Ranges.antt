@@ -30,7 +30,8 @@ use Rattle.stm_store.specs.Tables.{Declared}
 use Rattle.stm_store.specs.Naming.{Named}
 use Rattle.stm_check.specs.TypedBlock.{Block}
 use Rattle.stm_events.specs.declared.event.What.{What}
-use Rattle.stm_events.specs.declared.event.What.TheVariants.{Submitted, Installed, Finished, Cancelled, Declared as DeclaredLate}
+use Rattle.stm_events.specs.Labels.{is_label, is_label_byte}
+use Rattle.stm_events.specs.declared.event.What.TheVariants.{Submitted, Installed, Finished, Cancelled, Declared as DeclaredLate, Labelled}
 use Rattle.stm_terms.specs.Ast.{Act}
 use Rattle.stm_terms.specs.Typing.{ActionType}
 use Rattle.stm_check.specs.CheckFunction.{checked}
@@ -89,6 +90,23 @@ four false b c d h = absurd cc
 pub ascii_name : (name : List ℕ) → IsTrue (is_name_text name) → is_ascii_text name ≡ true
 unfolding is_name_text
 ascii_name name h = words_ascii name (four _ _ _ _ h)
+
+-- ---- a label
+
+seen_ascii : (x : ℕ) → is_label_byte x ≡ true → nat_lt x 128 ≡ true
+seen_ascii x h = grind (arith, nat_tests)
+
+all_seen : (xs : List ℕ) → list_all is_label_byte xs ≡ true → is_ascii_text xs ≡ true
+all_seen [] h = refl
+all_seen (x ∷ xs) h = let p = and_parts (is_label_byte x) (list_all is_label_byte xs) h in ascii_and (nat_lt x 128) (is_ascii_text xs) (seen_ascii x p.0) (all_seen xs p.1)
+
+three : (a b c : Bool) → IsTrue (a && b && c) → a ≡ true
+three true b c h = refl
+three false b c h = absurd cc
+
+pub ascii_label : (label : List ℕ) → IsTrue (is_label label) → is_ascii_text label ≡ true
+unfolding is_label
+ascii_label label h = all_seen label (three _ _ _ h)
 
 -- ---- a block's text
 
@@ -155,6 +173,7 @@ what_in_range known client (Finished ticket v n stale) k h =
 what_in_range known client (Cancelled ticket) k h = (refl, omega arith, (refl, refl, (refl, omega (arith, h), tt)))
 what_in_range known client (DeclaredLate name kind value) k h =
     (refl, omega arith, (refl, refl, (refl, value_in_range value h.2, (refl, ascii_name name h.0, (refl, ascii_type kind, tt)))))
+what_in_range known client (Labelled ticket label) k h = (refl, omega arith, (refl, refl, (refl, ascii_label label h.1, (refl, omega (arith, h.0), tt))))
 
 pub variable_in_range : (d : Declared) → FitsVariable d → IsInRange (variable_data d)
 variable_in_range d f = (refl, value_in_range d.value f.2, (refl, ascii_name d.name f.0, (refl, ascii_type d.kind, tt)))

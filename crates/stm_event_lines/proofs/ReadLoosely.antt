@@ -34,6 +34,6 @@ loose_cell_same (Ok o) line json ok h = λ name c f l. h name c f (cell_is line 
 loose_cell_same (Err e) line json ok h = tt
 
 pub loose_waiting_same : {E : Type 0} (r : Result (Option WaitingBlock) E) (known : List Named) (line : List ℕ) (json : Data) → read line ≡ Some json → IfOk r (λ o. o ≡ waiting_of known json)
-    → IfOk r (λ o. (ticket : ℕ) (b : Block) (d : Option Delivered) → FitsWaiting known ticket b d → waiting_line ticket b.text d ≡ line → o ≡ Some (record { ticket = ticket; block = b; delivery = d }))
-loose_waiting_same (Ok o) known line json ok h = λ ticket b d f l. h ∙ waiting_is known line ticket b d json f l ok
+    → IfOk r (λ o. (ticket : ℕ) (b : Block) (label : List ℕ) (d : Option Delivered) → FitsWaiting known ticket b label d → waiting_line ticket b.text label d ≡ line → o ≡ Some (record { ticket = ticket; block = b; label = label; delivery = d }))
+loose_waiting_same (Ok o) known line json ok h = λ ticket b label d f l. h ∙ waiting_is known line ticket b label d json f l ok
 loose_waiting_same (Err e) known line json ok h = tt

@@ -25,7 +25,8 @@ use Rattle.stm_store.specs.Tables.{Declared}
 use Rattle.stm_store.specs.Naming.{Named}
 use Rattle.stm_events.specs.declared.event.Event.{Event}
 use Rattle.stm_events.specs.declared.event.What.{What}
-use Rattle.stm_events.specs.declared.event.What.TheVariants.{Submitted, Installed, Finished, Cancelled, Declared as DeclaredLate}
+use Rattle.stm_events.specs.Labels.{is_label}
+use Rattle.stm_events.specs.declared.event.What.TheVariants.{Submitted, Installed, Finished, Cancelled, Declared as DeclaredLate, Labelled}
 use Rattle.stm_event_lines.specs.declared.read.Header.{Header}
 use Rattle.stm_event_lines.specs.Fits.{FitsNames, WhatFitsNames, FitsValue, FitsVerdict, FitWrites, FitNews, FitNumbers, FitsVariable, Is32Bit, IsOneLine}
 use Rattle.stm_event_lines.specs.Lines.{IsFormat, number_data, value_data, write_data, new_data, verdict_data, what_data, event_data, header_data, variable_data, event_line, header_line, variable_line}
@@ -115,6 +116,9 @@ what_back known client (Cancelled ticket) k h = rw (in_32 client (omega arith), 
 what_back known client (DeclaredLate name kind value) k h =
     let named : is_name_text name ≡ true = h.0 in
     rw (in_32 client (omega arith), lt-ltb client 128 k, type_back kind h.1, value_back value h.2, named)
+what_back known client (Labelled ticket label) k h =
+    let one : is_label label ≡ true = h.1 in
+    rw (in_32 client (omega arith), lt-ltb client 128 k, in_32 ticket h.0, one)
 
 event_back : (known : List Named) (e : Event) → FitsNames known e → event_of known (event_data e) ≡ Some e
 event_back known e f = what_back known e.client e.what f.0 f.1

@@ -19,7 +19,7 @@ use Rattle.stm_terms.specs.Texts.{type_text}
 use Rattle.stm_store.specs.Tables.{Declared}
 use Rattle.stm_store.specs.Naming.{Named}
 use Rattle.stm_events.specs.declared.event.What.{What}
-use Rattle.stm_events.specs.declared.event.What.TheVariants.{Submitted, Installed, Finished, Cancelled, Declared as DeclaredLate}
+use Rattle.stm_events.specs.declared.event.What.TheVariants.{Submitted, Installed, Finished, Cancelled, Declared as DeclaredLate, Labelled}
 use Rattle.stm_event_lines.specs.Fits.{FitsValue, FitsInt, FitsVerdict, FitWrites, FitNews, FitNumbers, WhatFitsNames, Is32Bit}
 use Rattle.stm_event_lines.specs.Lines.{number_data, value_data, write_data, new_data, verdict_data, what_data, header_data, variable_data}
 use Rattle.stm_event_lines.specs.Fields.{all_of}
@@ -114,6 +114,9 @@ what_round_trips known client (Cancelled ticket) k h =
 what_round_trips known client (DeclaredLate name kind value) k h =
     let c = number_round_trips 0 client (omega arith) in let v = value_round_trips value h.2 in
     record { numbers = (c.numbers, (tt, (v.numbers, (tt, (tt, tt))))); back = rw (c.back, v.back); shallow = omega (arith, v.shallow); exact = rw v.exact }
+what_round_trips known client (Labelled ticket label) k h =
+    let c = number_round_trips 0 client (omega arith) in let t = number_round_trips 0 ticket h.0 in
+    record { numbers = (c.numbers, (tt, (tt, (t.numbers, tt)))); back = rw (c.back, t.back); shallow = omega arith; exact = refl }
 
 pub header_round_trips : (format n : ℕ) → Is32Bit format → Is32Bit n → RoundTrips 6 (header_data format n)
 header_round_trips format n k h =

@@ -1,6 +1,6 @@
 -- What a JSON value stands for among the lines of a checkpoint, as the reader finds it. A line is accepted where what was found has
 -- this very line again.
-use Rattle.std.specs.Prelude.{ℕ, nat_eq, ◌||◌, List, codes, Bool, if◌then◌else◌, Option, Some, None, option_map, option_and_then, is_some, string_bytes}
+use Rattle.std.specs.Prelude.{ℕ, nat_eq, ◌||◌, List, [], codes, Bool, if◌then◌else◌, Option, Some, None, option_map, option_and_then, is_some, string_bytes}
 use Rattle.serde_json.specs.Data.{Data}
 use Rattle.serde_json.specs.Find.{get, as_null, as_bool, as_str, as_number, as_u64}
 use Rattle.stm_terms.specs.declared.values.Value.{Value}
@@ -8,6 +8,7 @@ use Rattle.stm_terms.specs.declared.verdicts.Verdict.{Verdict}
 use Rattle.stm_store.specs.declared.cell.Cell.{Cell}
 use Rattle.stm_store.specs.Naming.{Named}
 use Rattle.stm_events.specs.Delivered.{Delivered}
+use Rattle.stm_events.specs.Labels.{is_label}
 use Rattle.stm_event_lines.specs.declared.checkpoint.CheckpointHeader.{CheckpointHeader}
 use Rattle.stm_event_lines.specs.declared.checkpoint.NamedCell.{NamedCell}
 use Rattle.stm_event_lines.specs.declared.checkpoint.WaitingBlock.{WaitingBlock}
@@ -75,10 +76,19 @@ abbrev pub delivery_of : Data → Option (Option Delivered)
 delivery_of d =
     if is_some (get (codes "verdict") d) then option_map Some (option_and_then (delivery_in d) (verdict_field d)) else Some None
 
+-- the text, if it is a label
+abbrev pub label_in : List ℕ → Option (List ℕ)
+label_in text = if is_label text then Some text else None
+
+-- the label; the empty one if there is none
+abbrev pub label_field : Data → Option (List ℕ)
+label_field d = if is_some (get (codes "label") d) then option_and_then label_in (text_field (codes "label") d) else Some []
+
 -- a waiting block over these names
 abbrev pub waiting_of : List Named → Data → Option WaitingBlock
 waiting_of known d =
-    option_and_then (λ ticket. option_and_then (λ block.
-    option_map (λ delivery. record { ticket = ticket; block = block; delivery = delivery }) (delivery_of d))
+    option_and_then (λ ticket. option_and_then (λ block. option_and_then (λ label.
+    option_map (λ delivery. record { ticket = ticket; block = block; label = label; delivery = delivery }) (delivery_of d))
+    (label_field d))
     (option_and_then (block_of_text known) (text_field (codes "block") d)))
     (number_field (codes "ticket") d)

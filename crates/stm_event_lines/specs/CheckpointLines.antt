@@ -1,7 +1,7 @@
 -- The lines of a history that begins from a checkpoint, before its events, without their line feeds: the first line, a line for
 -- each variable of the store, and one for each waiting block.
-use Rattle.std.specs.Prelude.{⊤, ◌≡◌, ◌⊎◌, ℕ, ◌^◌, ◌<◌, ◌≤◌, List, map, Option, Some, None, Ok, IsTrue, codes}
-use Rattle.serde_json.specs.Data.{Data, null, boolean, string, array, object, member, no_members}
+use Rattle.std.specs.Prelude.{⊤, ◌≡◌, ◌⊎◌, ℕ, ◌^◌, ◌<◌, ◌≤◌, List, [], ◌∷◌, map, Option, Some, None, Ok, IsTrue, codes}
+use Rattle.serde_json.specs.Data.{Data, Members, null, boolean, string, array, object, member, no_members}
 use Rattle.serde_json.specs.View.{items_of}
 use Rattle.serde_json.specs.Written.{compact_text}
 use Rattle.stm_terms.specs.Limits.{most_refs}
@@ -11,11 +11,13 @@ use Rattle.stm_store.specs.declared.cell.Cell.{Cell}
 use Rattle.stm_store.specs.Naming.{Named}
 use Rattle.stm_check.specs.TypedBlock.{Block}
 use Rattle.stm_events.specs.Delivered.{Delivered}
+use Rattle.stm_events.specs.Labels.{is_label}
 use Rattle.stm_event_lines.specs.Fits.{Is32Bit, FitsValue, FitsVerdict, FitWrites}
 use Rattle.stm_event_lines.specs.Lines.{declaring_format, number_data, value_data, write_data, verdict_data}
 use Rattle.stm_event_lines.specs.WholeBlocks.{checked_block}
 
--- the format of histories that begin from a checkpoint, if no variable is declared late, and none was before the checkpoint
+-- the format of histories that begin from a checkpoint, if no variable is declared late, none was before the checkpoint, and no block is
+-- labelled
 abbrev pub checkpoint_format : ℕ
 checkpoint_format = 4
 
@@ -62,26 +64,35 @@ abbrev pub FitsCell : Option (List ℕ) → Cell → Type 0
 FitsCell name c = FitsName name × (c.kind.refs ≤ most_refs) × FitsValue c.value × (c.count < 2 ^ 64)
 
 -- ---- a waiting block
--- in JSON: a new one has its text and its ticket; one to which something was delivered has what it read, whether it is stale, and
--- the verdict besides
-abbrev pub waiting_data : ℕ → List ℕ → Option Delivered → Data
-waiting_data ticket text None = object (member (codes "block") (string text) (member (codes "ticket") (number_data ticket) no_members))
-waiting_data ticket text (Some d) =
-    object (member (codes "block") (string text)
-    (member (codes "reads") (array (items_of (map write_data d.reads)))
+-- the label before other members, unless it is empty
+abbrev pub label_before : List ℕ → Members → Members
+label_before [] more = more
+label_before (b ∷ bs) more = member (codes "label") (string (b ∷ bs)) more
+
+-- what the last delivery brought, if there was one, with the ticket among it
+abbrev pub delivery_members : ℕ → Option Delivered → Members
+delivery_members ticket None = member (codes "ticket") (number_data ticket) no_members
+delivery_members ticket (Some d) =
+    member (codes "reads") (array (items_of (map write_data d.reads)))
     (member (codes "stale") (boolean d.stale)
     (member (codes "ticket") (number_data ticket)
-    (member (codes "verdict") (verdict_data d.verdict) no_members)))))
+    (member (codes "verdict") (verdict_data d.verdict) no_members)))
 
-unfoldable pub waiting_line : ℕ → List ℕ → Option Delivered → List ℕ
-waiting_line ticket text delivery = compact_text (waiting_data ticket text delivery)
+-- in JSON: a new one has its text and its ticket, and its label if it has one; one to which something was delivered has what it read,
+-- whether it is stale, and the verdict besides
+abbrev pub waiting_data : ℕ → List ℕ → List ℕ → Option Delivered → Data
+waiting_data ticket text label delivery =
+    object (member (codes "block") (string text) (label_before label (delivery_members ticket delivery)))
+
+unfoldable pub waiting_line : ℕ → List ℕ → List ℕ → Option Delivered → List ℕ
+waiting_line ticket text label delivery = compact_text (waiting_data ticket text label delivery)
 
 -- all numbers and values of the delivery are in range
 abbrev pub FitsDelivery : Option Delivered → Type 0
 FitsDelivery None = ⊤
 FitsDelivery (Some d) = FitWrites d.reads × FitsVerdict d.verdict
 
--- the waiting block can stand in a line over the names: its numbers are in range, and it is what its text checks to
-abbrev pub FitsWaiting : List Named → ℕ → Block → Option Delivered → Type 0
-FitsWaiting known ticket block delivery =
-    Is32Bit ticket × (checked_block known block.text ≡ Ok block) × FitsDelivery delivery
+-- the waiting block can stand in a line over the names: its numbers are in range, it is what its text checks to, and its label is one
+abbrev pub FitsWaiting : List Named → ℕ → Block → List ℕ → Option Delivered → Type 0
+FitsWaiting known ticket block label delivery =
+    Is32Bit ticket × (checked_block known block.text ≡ Ok block) × FitsDelivery delivery × IsTrue (is_label label)

@@ -18,8 +18,9 @@ use Rattle.stm_store.specs.Tables.{Declared}
 use Rattle.stm_store.specs.Naming.{Named}
 use Rattle.stm_events.specs.declared.event.Event.{Event}
 use Rattle.stm_events.specs.declared.event.What.{What}
-use Rattle.stm_events.specs.declared.event.What.TheVariants.{Submitted, Installed, Finished, Cancelled, Declared as DeclaredLate}
+use Rattle.stm_events.specs.declared.event.What.TheVariants.{Submitted, Installed, Finished, Cancelled, Declared as DeclaredLate, Labelled}
 use Rattle.stm_event_lines.specs.declared.read.Header.{Header}
+use Rattle.stm_events.specs.Labels.{is_label}
 use Rattle.stm_events.specs.SlowDesk.{max_clients}
 use Rattle.stm_check.specs.TypedBlock.{Block}
 use Rattle.stm_event_lines.specs.WholeBlocks.{BlockFault, checked_block}
@@ -146,6 +147,14 @@ if_named d = if is_name_text d.name then Some (DeclaredLate d.name d.kind d.valu
 abbrev pub declared_event_of : Data → Option What
 declared_event_of d = option_and_then if_named (declared_from_json d)
 
+-- a label of a ticket, if the text is one
+abbrev pub if_label : ℕ → List ℕ → Option What
+if_label ticket label = if is_label label then Some (Labelled ticket label) else None
+
+-- the label that a block gets
+abbrev pub labelled_of : Data → ℕ → Option What
+labelled_of d ticket = option_and_then (if_label ticket) (text_field (codes "label") d)
+
 -- what happened to a ticket, by the word for it
 abbrev pub what_of : List Named → Data → List ℕ → ℕ → Option What
 what_of known d kind ticket =
@@ -153,6 +162,7 @@ what_of known d kind ticket =
     else if bytes_eq kind (codes "installed") then installed_of d ticket
     else if bytes_eq kind (codes "finished") then finished_of d ticket
     else if bytes_eq kind (codes "cancelled") then Some (Cancelled ticket)
+    else if bytes_eq kind (codes "labelled") then labelled_of d ticket
     else None
 
 -- the client of an event: one that there may be

@@ -15,7 +15,8 @@ use Rattle.stm_store.specs.Tables.{Declared}
 use Rattle.stm_store.specs.Naming.{Named}
 use Rattle.stm_events.specs.declared.event.Event.{Event}
 use Rattle.stm_events.specs.declared.event.What.{What}
-use Rattle.stm_events.specs.declared.event.What.TheVariants.{Submitted, Installed, Finished, Cancelled, Declared as DeclaredLate}
+use Rattle.stm_events.specs.declared.event.What.TheVariants.{Submitted, Installed, Finished, Cancelled, Declared as DeclaredLate, Labelled}
+use Rattle.stm_events.specs.Labels.{is_label}
 use Rattle.stm_events.specs.SlowDesk.{max_clients}
 use Rattle.stm_event_lines.specs.Lines.{declaring_format}
 use Rattle.stm_event_lines.specs.WholeBlocks.{checked_block}
@@ -59,25 +60,28 @@ FitsVerdict (Throws (Thrown n)) = FitsInt n
 FitsVerdict (Throws Overflow) = ⊤
 FitsVerdict Blocks = ⊤
 
--- what happens has its numbers in range, and a block that is submitted is what its text checks to over the names
+-- what happens has its numbers in range, a block that is submitted is what its text checks to over the names, and a label is one
 abbrev pub WhatFitsNames : List Named → What → Type 0
 WhatFitsNames known (Submitted ticket block) = Is32Bit ticket × (checked_block known block.text ≡ Ok block)
 WhatFitsNames known (Installed ticket v) = Is32Bit ticket × FitsVerdict v
 WhatFitsNames known (Finished ticket v first_new stale) = Is32Bit ticket × FitsVerdict v × Is32Bit first_new × FitNumbers stale
 WhatFitsNames known (Cancelled ticket) = Is32Bit ticket
 WhatFitsNames known (DeclaredLate name kind value) = IsTrue (is_name_text name) × (kind.refs ≤ most_refs) × FitsValue value
+WhatFitsNames known (Labelled ticket label) = Is32Bit ticket × IsTrue (is_label label)
 
 -- the event can stand in a line over the names, of a client that there may be
 abbrev pub FitsNames : List Named → Event → Type 0
 FitsNames known e = (e.client < max_clients) × WhatFitsNames known e.what
 
--- what may stand in a history of the format: in format 1 no block has a `catch`, and only in format 5 a variable is declared late
+-- what may stand in a history of the format: in format 1 no block has a `catch`, and only in format 5 a variable is declared late or a
+-- block is labelled
 abbrev pub WhatFitsFormat : ℕ → What → Type 0
 WhatFitsFormat format (Submitted ticket block) = format ≡ 1 → has_catch block.tree ≡ false
 WhatFitsFormat format (Installed ticket v) = ⊤
 WhatFitsFormat format (Finished ticket v first_new stale) = ⊤
 WhatFitsFormat format (Cancelled ticket) = ⊤
 WhatFitsFormat format (DeclaredLate name kind value) = format ≡ declaring_format
+WhatFitsFormat format (Labelled ticket label) = format ≡ declaring_format
 
 -- the event may stand in a history of the format
 abbrev pub FitsFormat : ℕ → Event → Type 0

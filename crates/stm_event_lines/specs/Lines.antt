@@ -15,16 +15,16 @@ use Rattle.stm_terms.specs.Texts.{type_text}
 use Rattle.stm_store.specs.Tables.{Declared}
 use Rattle.stm_events.specs.declared.event.Event.{Event}
 use Rattle.stm_events.specs.declared.event.What.{What}
-use Rattle.stm_events.specs.declared.event.What.TheVariants.{Submitted, Installed, Finished, Cancelled, Declared as DeclaredLate}
+use Rattle.stm_events.specs.declared.event.What.TheVariants.{Submitted, Installed, Finished, Cancelled, Declared as DeclaredLate, Labelled}
 use Rattle.stm_events.specs.declared.staleness.StalenessRule.{StalenessRule}
 use Rattle.stm_events.specs.declared.staleness.StalenessRule.TheVariants.{Written, Changed}
 
--- formats 1 to 3 are those of histories that begin with the first values of their variables and declare no variable late; the latest is
--- written
+-- formats 1 to 3 are those of histories that begin with the first values of their variables, declare no variable late and label no
+-- block; the latest is written
 abbrev pub latest_format : ℕ
 latest_format = 3
 
--- the format of histories in which a variable is declared late, or was before their checkpoint
+-- the format of histories in which a variable is declared late, or was before their checkpoint, or a block is labelled
 abbrev pub declaring_format : ℕ
 declaring_format = 5
 
@@ -96,6 +96,11 @@ what_data client (DeclaredLate name kind value) =
     (member (codes "init") (value_data value)
     (member (codes "name") (string name)
     (member (codes "type") (string (type_text kind)) no_members)))))
+what_data client (Labelled ticket label) =
+    object (member (codes "client") (number_data client)
+    (member (codes "event") (string (codes "labelled"))
+    (member (codes "label") (string label)
+    (member (codes "ticket") (number_data ticket) no_members))))
 
 -- the same of a whole event
 abbrev pub event_data : Event → Data

@@ -1,16 +1,17 @@
 //! The lines of a history that begins from a checkpoint, before its events.
 
-ghost use Rattle.std.specs.Prelude.{◌≡◌, ◌≢◌, ◌↔◌, ◌≤◌, ◌<◌, ◌^◌, ℕ, List, Option, None, Some, IfOk, IfSome, IsErrOf, OnOk, IsTrue, map, codes, option_map, option_and_then, string_bytes};
+ghost use Rattle.std.specs.Prelude.{◌≡◌, ◌≢◌, ◌↔◌, ◌≤◌, ◌<◌, ◌^◌, ℕ, List, [], Option, None, Some, IfOk, IfSome, IsErrOf, OnOk, IsTrue, map, codes, option_map, option_and_then, string_bytes};
 ghost use Rattle.serde_json.specs.Data.{array, boolean};
-ghost use Rattle.serde_json.specs.Events.{SendsValue};
+ghost use Rattle.serde_json.specs.Events.{SendsValue, SendsMembers};
 ghost use Rattle.serde_json.specs.Find.{get};
 ghost use Rattle.serde_json.specs.View.{view, items_of};
 ghost use Rattle.stm_terms.specs.Limits.{most_refs};
 ghost use Rattle.stm_store.specs.declared.cell.Cell.{Cell as AnyCell};
 ghost use Rattle.stm_check.specs.TypedBlock.{Block};
 ghost use Rattle.stm_events.specs.Delivered.{Delivered};
-ghost use Rattle.stm_event_lines.specs.CheckpointFields.{checkpoint_header_of as header_meant, count_field, name_of, counted_cell_of, cell_of as cell_meant, cell_parts, bool_field, delivery_in, delivery_of as delivery_meant, waiting_of as waiting_meant};
-ghost use Rattle.stm_event_lines.specs.CheckpointLines.{IsCheckpointFormat, checkpoint_header_data, checkpoint_header_line, name_data, cell_data, cell_line, waiting_data, waiting_line, FitsName, FitsCell, FitsDelivery, FitsWaiting};
+ghost use Rattle.stm_events.specs.Labels.{is_label};
+ghost use Rattle.stm_event_lines.specs.CheckpointFields.{checkpoint_header_of as header_meant, count_field, name_of, counted_cell_of, cell_of as cell_meant, cell_parts, bool_field, delivery_in, delivery_of as delivery_meant, label_in as label_in_meant, label_field, waiting_of as waiting_meant};
+ghost use Rattle.stm_event_lines.specs.CheckpointLines.{IsCheckpointFormat, checkpoint_header_data, checkpoint_header_line, name_data, cell_data, cell_line, delivery_members, waiting_data, waiting_line, FitsName, FitsCell, FitsDelivery, FitsWaiting};
 ghost use Rattle.stm_event_lines.specs.Fields.{block_of_text, text_field, verdict_field};
 ghost use Rattle.stm_event_lines.specs.Fits.{Is32Bit, FitsValue, FitsVerdict};
 ghost use Rattle.stm_event_lines.specs.Lines.{write_data};
@@ -30,6 +31,8 @@ use serde_json::{Value as Json, json, to_string};
 use std::alloc::Global;
 use stm_check::SharedBlock;
 use stm_events::delivery::Delivery;
+use stm_events::label::is_label;
+use stm_events::shared_name::SharedName;
 use stm_events::shared_verdict::SharedVerdict;
 use stm_store::{Cell, Names};
 use stm_terms::values::Value;
@@ -52,11 +55,13 @@ pub struct NamedCell {
     pub cell: Cell,
 }
 
-/// A block that waits under a ticket, with what its last delivery brought, if there was one.
+/// A block that waits under a ticket, with its label, which is empty if it has none, and with what its last delivery brought, if there
+/// was one.
 #[derive(Drop)]
 pub struct WaitingBlock {
     pub ticket: u32,
     pub block: SharedBlock,
+    pub label: SharedName,
     pub delivery: Option<Delivery>,
 }
 
@@ -116,18 +121,27 @@ pub fn cell_text(alloc: Global, name: Option<&str>, cell: Cell) -> Result<String
     variable.to_string(alloc)
 }
 
-fn new_block_json(alloc: Global, ticket: u32, text: &str) -> Result<Json, NoMemory>
-    ensures { IfOk result (λ v. view v ≡ waiting_data ticket text.now None) }
+fn new_block_json(alloc: Global, ticket: u32, text: &str, label: &str) -> Result<Json, NoMemory>
+    ensures { IfOk result (λ v. view v ≡ waiting_data ticket text.now label.now None) }
 {
-    json!(in alloc; {"block": text, "ticket": ticket})
+    if label.is_empty() {
+        json!(in alloc; {"block": text, "ticket": ticket})
+    } else {
+        json!(in alloc; {"block": text, "label": label, "ticket": ticket})
+    }
 }
 
 /// The line of a new block.
 #[tactic(auto, unfolding(crate::specs::CheckpointLines::waiting_line))]
-pub fn new_block_text(alloc: Global, ticket: u32, text: &str) -> Result<String, NoMemory>
-    ensures { IfOk result (λ s. string_bytes s ≡ waiting_line ticket text.now None) }
+pub fn new_block_text(
+    alloc: Global,
+    ticket: u32,
+    text: &str,
+    label: &str,
+) -> Result<String, NoMemory>
+    ensures { IfOk result (λ s. string_bytes s ≡ waiting_line ticket text.now label.now None) }
 {
-    let block = new_block_json(alloc, ticket, text)?;
+    let block = new_block_json(alloc, ticket, text, label)?;
     block.to_string(alloc)
 }
 
@@ -153,13 +167,31 @@ struct DeliveredLine<'a> {
     alloc: Global,
     ticket: u32,
     text: &'a str,
+    label: &'a str,
     reads: &'a [(u32, Value)],
     verdict: &'a SharedVerdict,
     stale: bool,
 }
 
-fn send_delivered<S: Serializer>(line: &DeliveredLine<'_>, out: &mut S) -> Result<(), S::Error>
-    ensures { OnOk result (SendsValue (waiting_data line.now.ticket line.now.text.now (Some (record {
+/// Sends what a delivery brought, and the end of its object.
+fn send_delivery<S: Serializer>(line: &DeliveredLine<'_>, out: &mut S) -> Result<(), S::Error>
+    ensures { OnOk result (SendsMembers (delivery_members line.now.ticket (Some (record {
+      reads = line.now.reads.now;
+      verdict = line.now.verdict.now;
+      stale = line.now.stale;
+    })))
+        (S.written out.old) (S.written out.new)) }
+{
+    send_reads_at(line.reads, out)?;
+    send_stale_at(line.stale, out)?;
+    send_number_at("ticket", line.ticket, out)?;
+    send_verdict_at(line.alloc, line.verdict, out)?;
+    out.end_map()
+}
+
+/// Sends a block that has no label.
+fn send_unlabelled<S: Serializer>(line: &DeliveredLine<'_>, out: &mut S) -> Result<(), S::Error>
+    ensures { OnOk result (SendsValue (waiting_data line.now.ticket line.now.text.now [] (Some (record {
       reads = line.now.reads.now;
       verdict = line.now.verdict.now;
       stale = line.now.stale;
@@ -168,11 +200,38 @@ fn send_delivered<S: Serializer>(line: &DeliveredLine<'_>, out: &mut S) -> Resul
 {
     out.begin_map(Some(5))?;
     send_text_at("block", line.text, out)?;
-    send_reads_at(line.reads, out)?;
-    send_stale_at(line.stale, out)?;
-    send_number_at("ticket", line.ticket, out)?;
-    send_verdict_at(line.alloc, line.verdict, out)?;
-    out.end_map()
+    send_delivery(line, out)
+}
+
+/// Sends a block that has a label.
+fn send_with_label<S: Serializer>(line: &DeliveredLine<'_>, out: &mut S) -> Result<(), S::Error>
+    requires { line.now.label.now ≢ [] }
+    ensures { OnOk result (SendsValue (waiting_data line.now.ticket line.now.text.now line.now.label.now (Some (record {
+      reads = line.now.reads.now;
+      verdict = line.now.verdict.now;
+      stale = line.now.stale;
+    })))
+        (S.written out.old) (S.written out.new)) }
+{
+    out.begin_map(Some(6))?;
+    send_text_at("block", line.text, out)?;
+    send_text_at("label", line.label, out)?;
+    send_delivery(line, out)
+}
+
+fn send_delivered<S: Serializer>(line: &DeliveredLine<'_>, out: &mut S) -> Result<(), S::Error>
+    ensures { OnOk result (SendsValue (waiting_data line.now.ticket line.now.text.now line.now.label.now (Some (record {
+      reads = line.now.reads.now;
+      verdict = line.now.verdict.now;
+      stale = line.now.stale;
+    })))
+        (S.written out.old) (S.written out.new)) }
+{
+    if line.label.is_empty() {
+        send_unlabelled(line, out)
+    } else {
+        send_with_label(line, out)
+    }
 }
 
 impl Described for DeliveredLine<'_> {
@@ -180,7 +239,7 @@ impl Described for DeliveredLine<'_> {
     ghost use Rattle.std.specs.Prelude.{Some};
     ghost use Rattle.stm_event_lines.specs.CheckpointLines.{waiting_data};
 
-    ghost writes = { λ line. SendsValue (waiting_data line.ticket line.text.now (Some (record {
+    ghost writes = { λ line. SendsValue (waiting_data line.ticket line.text.now line.label.now (Some (record {
       reads = line.reads.now;
       verdict = line.verdict.now;
       stale = line.stale;
@@ -198,17 +257,19 @@ pub fn delivered_block_text(
     alloc: Global,
     ticket: u32,
     text: &str,
+    label: &str,
     reads: &[(u32, Value)],
     verdict: &SharedVerdict,
     stale: bool,
 ) -> Result<String, NoMemory>
     ensures { IfOk result (λ s. string_bytes s
-        ≡ waiting_line ticket text.now (Some (record { reads = reads.now; verdict = verdict.now; stale = stale }))) }
+        ≡ waiting_line ticket text.now label.now (Some (record { reads = reads.now; verdict = verdict.now; stale = stale }))) }
 {
     let line = DeliveredLine {
         alloc,
         ticket,
         text,
+        label,
         reads,
         verdict,
         stale,
@@ -464,6 +525,32 @@ fn block_at(alloc: Global, known: &Names, json: &Json) -> Result<Option<SharedBl
     }
 }
 
+/// The text, if it is a label.
+fn label_in(alloc: Global, text: &str) -> Result<Option<SharedName>, NoMemory>
+    ensures value { IfOk result (λ o. o ≡ label_in_meant text.now) }
+    ensures fits { IfOk result (λ o. IfSome o (λ l. IsTrue (is_label l))) }
+{
+    if is_label(text) {
+        Ok(Some(SharedName::new(alloc, String::from_str(alloc, text)?)?))
+    } else {
+        Ok(None)
+    }
+}
+
+/// The label; the empty one if there is none.
+fn label_at(alloc: Global, json: &Json) -> Result<Option<SharedName>, NoMemory>
+    ensures value { IfOk result (λ o. o ≡ label_field (view json.now)) }
+    ensures fits { IfOk result (λ o. IfSome o (λ l. IsTrue (is_label l))) }
+{
+    if json.get("label").is_none() {
+        return Ok(Some(SharedName::none()));
+    }
+    match text_at(json, "label") {
+        Some(text) => label_in(alloc, text),
+        None => Ok(None),
+    }
+}
+
 /// The waiting block that the value represents, if it does.
 pub(crate) fn waiting_of(
     alloc: Global,
@@ -472,7 +559,7 @@ pub(crate) fn waiting_of(
 ) -> Result<Option<WaitingBlock>, NoMemory>
     ensures value { IfOk result (λ o. o ≡ waiting_meant known.now (view json.now)) }
     ensures fits { IfOk result (λ o. IfSome o (λ w.
-        FitsWaiting known.now w.ticket w.block w.delivery)) }
+        FitsWaiting known.now w.ticket w.block w.label w.delivery)) }
 {
     let Some(ticket) = number_at(json, "ticket") else {
         return Ok(None);
@@ -480,10 +567,14 @@ pub(crate) fn waiting_of(
     let Some(block) = block_at(alloc, known, json)? else {
         return Ok(None);
     };
+    let Some(label) = label_at(alloc, json)? else {
+        return Ok(None);
+    };
     match delivery_of(alloc, json)? {
         Some(delivery) => Ok(Some(WaitingBlock {
             ticket,
             block,
+            label,
             delivery,
         })),
         None => Ok(None),
@@ -493,15 +584,17 @@ pub(crate) fn waiting_of(
 /// The line of a waiting block.
 pub fn waiting_text(alloc: Global, waiting: &WaitingBlock) -> Result<String, NoMemory>
     ensures { IfOk result (λ s. string_bytes s
-        ≡ waiting_line waiting.now.ticket waiting.now.block.text waiting.now.delivery) }
+        ≡ waiting_line waiting.now.ticket waiting.now.block.text waiting.now.label waiting.now.delivery) }
 {
     let text = waiting.block.block().text();
+    let label = waiting.label.as_str();
     match &waiting.delivery {
-        None => new_block_text(alloc, waiting.ticket, text),
+        None => new_block_text(alloc, waiting.ticket, text, label),
         Some(delivery) => delivered_block_text(
             alloc,
             waiting.ticket,
             text,
+            label,
             delivery.reads(),
             delivery.verdict(),
             delivery.is_stale(),
@@ -516,12 +609,12 @@ fn waiting_in(
     json: &Json,
     line: &[u8],
 ) -> Result<WaitingBlock, LineError>
-    ensures ok { IfOk result (λ w. waiting_line w.ticket w.block.text w.delivery ≡ line.now) }
-    ensures fits { IfOk result (λ w. FitsWaiting known.now w.ticket w.block w.delivery) }
-    ensures bad { IsErrOf result LineError.Bad → (ticket : ℕ) (block : Block) (d : Option Delivered)
+    ensures ok { IfOk result (λ w. waiting_line w.ticket w.block.text w.label w.delivery ≡ line.now) }
+    ensures fits { IfOk result (λ w. FitsWaiting known.now w.ticket w.block w.label w.delivery) }
+    ensures bad { IsErrOf result LineError.Bad → (ticket : ℕ) (block : Block) (label : List ℕ) (d : Option Delivered)
         → waiting_meant known.now (view json.now)
-        ≡ Some (record { ticket = ticket; block = block; delivery = d })
-        → waiting_line ticket block.text d ≢ line.now }
+        ≡ Some (record { ticket = ticket; block = block; label = label; delivery = d })
+        → waiting_line ticket block.text label d ≢ line.now }
 {
     let Some(waiting) = waiting_of(alloc, known, json)? else {
         return Err(LineError::Bad);
@@ -536,10 +629,10 @@ fn waiting_in(
 
 /// Reads the line of a waiting block, exactly where it is one whose text is a block over the names.
 pub fn read_waiting(alloc: Global, known: &Names, line: &[u8]) -> Result<WaitingBlock, LineError>
-    ensures ok { IfOk result (λ w. waiting_line w.ticket w.block.text w.delivery ≡ line.now) }
-    ensures fits { IfOk result (λ w. FitsWaiting known.now w.ticket w.block w.delivery) }
-    ensures bad { IsErrOf result LineError.Bad → (ticket : ℕ) (block : Block) (d : Option Delivered)
-        → FitsWaiting known.now ticket block d → waiting_line ticket block.text d ≢ line.now }
+    ensures ok { IfOk result (λ w. waiting_line w.ticket w.block.text w.label w.delivery ≡ line.now) }
+    ensures fits { IfOk result (λ w. FitsWaiting known.now w.ticket w.block w.label w.delivery) }
+    ensures bad { IsErrOf result LineError.Bad → (ticket : ℕ) (block : Block) (label : List ℕ) (d : Option Delivered)
+        → FitsWaiting known.now ticket block label d → waiting_line ticket block.text label d ≢ line.now }
 {
     match json_of(alloc, line) {
         Ok(json) => waiting_in(alloc, known, &json, line),

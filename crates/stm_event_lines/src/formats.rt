@@ -12,13 +12,15 @@ use stm_events::staleness::StalenessRule;
 /// The first format, in which no block has a `catch`.
 pub const FIRST_FORMAT: u32 = 1;
 
-/// The format that is written of histories that begin with the first values of their variables and declare no variable late.
+/// The format that is written of histories that begin with the first values of their variables, declare no variable late and label no
+/// block.
 pub const LATEST_FORMAT: u32 = 3;
 
-/// The format of histories that begin from a checkpoint, if no variable is declared late, and none was before the checkpoint.
+/// The format of histories that begin from a checkpoint, if no variable is declared late, none was before the checkpoint, and no block
+/// is labelled.
 pub const CHECKPOINT_FORMAT: u32 = 4;
 
-/// The format of histories in which a variable is declared late, or was before their checkpoint.
+/// The format of histories in which a variable is declared late, or was before their checkpoint, or a block is labelled.
 pub const DECLARING_FORMAT: u32 = 5;
 
 /// Whether histories of the format that begin with the first values of their variables are read.
@@ -62,5 +64,6 @@ pub fn fits_format(format: u32, event: &Event) -> bool
         What::Finished { .. } => true,
         What::Cancelled { .. } => true,
         What::Declared { .. } => format == DECLARING_FORMAT,
+        What::Labelled { .. } => format == DECLARING_FORMAT,
     }
 }

@@ -187,10 +187,10 @@ pub fn loose_waiting(
     line: &[u8],
 ) -> Result<Option<WaitingBlock>, NoMemory>
     ensures fits { IfOk result (λ o. IfSome o (λ w.
-        FitsWaiting known.now w.ticket w.block w.delivery)) }
-    ensures same { IfOk result (λ o. (ticket : ℕ) (block : Block) (d : Option Delivered)
-        → FitsWaiting known.now ticket block d → waiting_line ticket block.text d ≡ line.now
-        → o ≡ Some (record { ticket = ticket; block = block; delivery = d })) }
+        FitsWaiting known.now w.ticket w.block w.label w.delivery)) }
+    ensures same { IfOk result (λ o. (ticket : ℕ) (block : Block) (label : List ℕ) (d : Option Delivered)
+        → FitsWaiting known.now ticket block label d → waiting_line ticket block.text label d ≡ line.now
+        → o ≡ Some (record { ticket = ticket; block = block; label = label; delivery = d })) }
 {
     match json_of(alloc, line) {
         Ok(json) => waiting_of(alloc, known, &json),

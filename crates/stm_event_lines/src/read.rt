@@ -7,7 +7,7 @@ ghost use Rattle.stm_events.specs.declared.event.Event.{Event as AnyEvent};
 ghost use Rattle.stm_store.specs.Tables.{Declared};
 ghost use Rattle.stm_store.specs.Naming.{Named};
 ghost use Rattle.stm_event_lines.specs.Fields.{block_of_text};
-ghost use Rattle.stm_event_lines.specs.Fields.{event_of as event_meant, header_of as header_meant, what_of as what_meant, what_in as what_in_meant, if_named as if_named_meant, declared_event_of, client_field, submitted_of, installed_of, finished_of, number_field, declared_from_json as variable_meant, type_in as type_meant, text_field};
+ghost use Rattle.stm_event_lines.specs.Fields.{event_of as event_meant, header_of as header_meant, what_of as what_meant, if_label as if_label_meant, labelled_of, what_in as what_in_meant, if_named as if_named_meant, declared_event_of, client_field, submitted_of, installed_of, finished_of, number_field, declared_from_json as variable_meant, type_in as type_meant, text_field};
 ghost use Rattle.stm_terms.specs.Limits.{most_refs};
 ghost use Rattle.stm_events.specs.SlowDesk.{max_clients};
 ghost use Rattle.stm_event_lines.specs.Fits.{Is32Bit, FitsNames, WhatFitsNames, FitsValue, FitsVariable};
@@ -24,6 +24,7 @@ use crate::write::{event_text, header_text, variable_text};
 use serde_json::Value as Json;
 use std::alloc::Global;
 use stm_events::event::{Event, What};
+use stm_events::label::is_label;
 use stm_events::shared_name::SharedName;
 use stm_events::shared_verdict::SharedVerdict;
 use stm_events::tickets::Tickets;
@@ -125,6 +126,31 @@ fn finished(alloc: Global, json: &Json, ticket: u32) -> Result<Option<What>, NoM
     }))
 }
 
+/// The label of a ticket, if the text is one.
+fn if_label(alloc: Global, ticket: u32, label: &str) -> Result<Option<What>, NoMemory>
+    ensures value { IfOk result (λ o. o ≡ if_label_meant ticket label.now) }
+    ensures fits { IfOk result (λ o. IfSome o (λ w. (t : List Named) → WhatFitsNames t w)) }
+{
+    if is_label(label) {
+        Ok(Some(What::Labelled {
+            ticket,
+            label: SharedName::new(alloc, String::from_str(alloc, label)?)?,
+        }))
+    } else {
+        Ok(None)
+    }
+}
+
+fn labelled(alloc: Global, json: &Json, ticket: u32) -> Result<Option<What>, NoMemory>
+    ensures value { IfOk result (λ o. o ≡ labelled_of (view json.now) ticket) }
+    ensures fits { IfOk result (λ o. IfSome o (λ w. (t : List Named) → WhatFitsNames t w)) }
+{
+    match text_at(json, "label") {
+        Some(label) => if_label(alloc, ticket, label),
+        None => Ok(None),
+    }
+}
+
 fn what_of(
     alloc: Global,
     known: &Names,
@@ -143,6 +169,8 @@ fn what_of(
         finished(alloc, json, ticket)
     } else if kind == "cancelled" {
         Ok(Some(What::Cancelled { ticket }))
+    } else if kind == "labelled" {
+        labelled(alloc, json, ticket)
     } else {
         Ok(None)
     }

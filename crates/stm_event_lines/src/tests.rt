@@ -27,6 +27,8 @@ const MADE: &str = "{\"count\":0,\"init\":{\"old\":0},\"name\":null,\"type\":\"T
 
 const NEW: &str = "{\"block\":\"readTVar x\",\"ticket\":7}";
 
+const LABELLED: &str = "{\"block\":\"readTVar x\",\"label\":\"job7\",\"ticket\":7}";
+
 const COMMITS: &str =
     "{\"block\":\"readTVar x\",\"reads\":[[0,5]],\"stale\":false,\"ticket\":7,\"verdict\":{\"commits\":{\"news\":[[\"TVar Int\",{\"new\":0}]],\"result\":5,\"writes\":[[0,true]]}}}";
 
@@ -37,7 +39,7 @@ const OVERFLOWS: &str =
     "{\"block\":\"throw 3\",\"reads\":[],\"stale\":false,\"ticket\":8,\"verdict\":{\"throws\":\"overflow\"}}";
 
 const BLOCKS: &str =
-    "{\"block\":\"retry\",\"reads\":[[0,5],[1,{\"old\":0}]],\"stale\":true,\"ticket\":1,\"verdict\":\"blocks\"}";
+    "{\"block\":\"retry\",\"label\":\"two\\\"s\",\"reads\":[[0,5],[1,{\"old\":0}]],\"stale\":true,\"ticket\":1,\"verdict\":\"blocks\"}";
 
 #[test]
 fn headers_and_variables_are_written(rt: HostRuntime) -> Result<(), Fail> {
@@ -92,21 +94,25 @@ fn waiting_blocks_are_written(rt: HostRuntime) -> Result<(), Fail> {
     let blocks = SharedVerdict::new(alloc, Verdict::Blocks)?;
     let read = [(0, Value::Int(5))];
     let two = [(0, Value::Int(5)), (1, Value::Var(Ref::Old(0)))];
-    assert_eq!(rt; new_block_text(alloc, 7, "readTVar x")?.as_str(), NEW);
+    assert_eq!(rt; new_block_text(alloc, 7, "readTVar x", "")?.as_str(), NEW);
     assert_eq!(rt;
-        delivered_block_text(alloc, 7, "readTVar x", &read, &commits, false)?.as_str(),
+        new_block_text(alloc, 7, "readTVar x", "job7")?.as_str(),
+        LABELLED
+    );
+    assert_eq!(rt;
+        delivered_block_text(alloc, 7, "readTVar x", "", &read, &commits, false)?.as_str(),
         COMMITS
     );
     assert_eq!(rt;
-        delivered_block_text(alloc, 8, "throw 3", &[], &throws, true)?.as_str(),
+        delivered_block_text(alloc, 8, "throw 3", "", &[], &throws, true)?.as_str(),
         THROWS
     );
     assert_eq!(rt;
-        delivered_block_text(alloc, 8, "throw 3", &[], &overflows, false)?.as_str(),
+        delivered_block_text(alloc, 8, "throw 3", "", &[], &overflows, false)?.as_str(),
         OVERFLOWS
     );
     assert_eq!(rt;
-        delivered_block_text(alloc, 1, "retry", &two, &blocks, true)?.as_str(),
+        delivered_block_text(alloc, 1, "retry", "two\"s", &two, &blocks, true)?.as_str(),
         BLOCKS
     );
     Ok(())
@@ -162,7 +168,7 @@ fn own_lines_are_read(rt: HostRuntime) -> Result<(), Fail> {
     for line in [DECLARED, MADE] {
         assert!(rt; is_cell(alloc, line)?, "{line}");
     }
-    for line in [NEW, COMMITS, THROWS, OVERFLOWS, BLOCKS] {
+    for line in [NEW, LABELLED, COMMITS, THROWS, OVERFLOWS, BLOCKS] {
         assert!(rt; is_waiting(alloc, &known, line)?, "{line}");
     }
     Ok(())
@@ -194,8 +200,8 @@ const NO_CELLS: [&str; 8] = [
 ];
 
 /// No waiting blocks: another order, a blank, a leading zero, a read of three items, no verdict beside reads, a fault in the block,
-/// a variable that isn't among the names, a second verdict, a truth value that is a number.
-const NO_WAITING: [&str; 9] = [
+/// a variable that isn't among the names, a second verdict, a truth value that is a number, labels that are none.
+const NO_WAITING: [&str; 12] = [
     "{\"ticket\":7,\"block\":\"readTVar x\"}",
     "{\"block\":\"readTVar x\",\"ticket\": 7}",
     "{\"block\":\"readTVar x\",\"ticket\":07}",
@@ -205,6 +211,9 @@ const NO_WAITING: [&str; 9] = [
     "{\"block\":\"readTVar y\",\"ticket\":7}",
     "{\"block\":\"retry\",\"reads\":[],\"stale\":true,\"ticket\":1,\"verdict\":\"blocks\",\"verdict\":\"blocks\"}",
     "{\"block\":\"retry\",\"reads\":[],\"stale\":1,\"ticket\":1,\"verdict\":\"blocks\"}",
+    "{\"block\":\"readTVar x\",\"label\":\"\",\"ticket\":7}",
+    "{\"block\":\"readTVar x\",\"label\":\"-\",\"ticket\":7}",
+    "{\"block\":\"readTVar x\",\"label\":\"a b\",\"ticket\":7}",
 ];
 
 #[test]

@@ -4,7 +4,7 @@ ghost use Rattle.std.specs.Prelude.{◌≡◌, string_bytes, IfOk, OnOk, map, co
 ghost use Rattle.serde_json.specs.Data.{array, string};
 ghost use Rattle.serde_json.specs.Events.{SendsValue};
 ghost use Rattle.serde_json.specs.View.{view, items_of};
-ghost use Rattle.stm_events.specs.declared.event.What.TheVariants.{Submitted, Installed, Finished, Cancelled, Declared as DeclaredLate};
+ghost use Rattle.stm_events.specs.declared.event.What.TheVariants.{Submitted, Installed, Finished, Cancelled, Declared as DeclaredLate, Labelled};
 ghost use Rattle.stm_event_lines.specs.Lines.{what_data, event_data, event_line, header_data, header_line, variable_data, variable_line, verdict_data, value_data, number_data};
 ghost use Rattle.stm_terms.specs.Texts.{type_text as text_of_type};
 ghost use Rattle.stm_event_lines.specs.Sending.{SendsMember};
@@ -151,6 +151,23 @@ fn send_declared<S: Serializer>(
     out.end_map()
 }
 
+fn send_labelled<S: Serializer>(
+    client: u32,
+    ticket: u32,
+    label: &str,
+    out: &mut S,
+) -> Result<(), S::Error>
+    ensures { OnOk result (SendsValue (what_data client (Labelled ticket label.now))
+        (S.written out.old) (S.written out.new)) }
+{
+    out.begin_map(Some(4))?;
+    send_number_at("client", client, out)?;
+    send_text_at("event", "labelled", out)?;
+    send_text_at("label", label, out)?;
+    send_number_at("ticket", ticket, out)?;
+    out.end_map()
+}
+
 fn send_event<S: Serializer>(alloc: Global, event: &Event, out: &mut S) -> Result<(), S::Error>
     ensures { OnOk result (SendsValue (event_data event.now)
         (S.written out.old) (S.written out.new)) }
@@ -177,6 +194,9 @@ fn send_event<S: Serializer>(alloc: Global, event: &Event, out: &mut S) -> Resul
         What::Cancelled { ticket } => send_cancelled(event.client, *ticket, out),
         What::Declared { name, kind, value } => {
             send_declared(alloc, event.client, name.as_str(), *kind, *value, out)
+        }
+        What::Labelled { ticket, label } => {
+            send_labelled(event.client, *ticket, label.as_str(), out)
         }
     }
 }

@@ -1,7 +1,14 @@
-use Rattle.std.proofs.lemmas.Result.{on_ok_weaker}
+use Rattle.std.proofs.Common.{◌≡◌, List, ℕ, [], Some, OnOk, sym, subst, ◌∙◌}
+use Rattle.serde_json.specs.Events.{SendsValue}
+use Rattle.stm_events.specs.Delivered.{Delivered}
+use Rattle.stm_event_lines.specs.CheckpointLines.{waiting_data}
+use Rattle.stm_event_lines.proofs.Checkpoints.{empty_is}
 use Rattle.stm_event_lines.proofs.checkpoint.send_delivered.Goals as goal
 
-pub returns : goal.returns
-returns g c =
+pub returns-then-is_empty : goal.returns-then-is_empty
+returns-then-is_empty g c =
     let w = g.S.Serializer.written in
-    on_ok_weaker c.end_map.result (λ e. (w c.begin_map.new.self, c.in_ok-begin_map.ensures, (c.in_ok-send_text_at.ensures.0, w c.send_text_at.new.out, c.in_ok-send_text_at.ensures.1, c.in_ok-send_text_at.ensures.2, (c.in_ok-send_reads_at.ensures.0, w c.send_reads_at.new.out, c.in_ok-send_reads_at.ensures.1, c.in_ok-send_reads_at.ensures.2, (c.in_ok-send_stale_at.ensures.0, w c.send_stale_at.new.out, c.in_ok-send_stale_at.ensures.1, c.in_ok-send_stale_at.ensures.2, (c.in_ok-send_number_at.ensures.0, w c.send_number_at.new.out, c.in_ok-send_number_at.ensures.1, c.in_ok-send_number_at.ensures.2, (c.in_ok-send_verdict_at.ensures.0, w c.send_verdict_at.new.out, c.in_ok-send_verdict_at.ensures.1, c.in_ok-send_verdict_at.ensures.2, e))))))) c.end_map.ensures
+    let l = c.args.line.now in
+    let d : Delivered = record { reads = l.reads.now; verdict = l.verdict.now; stale = l.stale } in
+    let none : [] ≡ l.label.now = empty_is l.label.now (sym c.is_empty.ensures ∙ c.if-is_empty.true) in
+    subst (λ (x : List ℕ). OnOk c.send_unlabelled.result (SendsValue (waiting_data l.ticket l.text.now x (Some d)) (w c.args.out.now) (w c.send_unlabelled.new.out))) none c.send_unlabelled.ensures
