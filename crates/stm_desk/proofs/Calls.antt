@@ -10,7 +10,7 @@ use Rattle.stm_check.specs.TypedBlock.{Block}
 use Rattle.stm_events.specs.declared.event.Event.{Event}
 use Rattle.stm_events.specs.declared.event.What.{What}
 use Rattle.stm_events.specs.SlowDesk.{Slow, state_from, max_clients}
-use Rattle.stm_events.specs.Refusals.{submit_refused, late_declare_refused, cancel_refused}
+use Rattle.stm_events.specs.Refusals.{submit_refused, late_declare_refused, label_refused, cancel_refused}
 use Rattle.stm_events.specs.Laws.{SubmitsWellTyped}
 use Rattle.stm_events.proofs.Folds.{state-push, legal-push}
 use Rattle.stm_events.proofs.Rising.{next_le}
@@ -74,6 +74,9 @@ module _ (table : List Declared) (checkpoint : Option CheckpointView) (limit : �
 
   pub may_declare : (name : List ℕ) (kind : Ty) (value : Value) → full ≡ false → late_declare_refused now full name kind value ≡ None → late_declare_refused now false name kind value ≡ None
   may_declare name kind value r e = subst (λ (b : Bool). late_declare_refused now b name kind value ≡ None) r e
+
+  pub may_label : (t : ℕ) → full ≡ false → label_refused now full t ≡ None → label_refused now false t ≡ None
+  may_label t r e = subst (λ (b : Bool). label_refused now b t ≡ None) r e
 
   pub may_cancel : (t : ℕ) → full ≡ false → cancel_refused now full t ≡ None → cancel_refused now false t ≡ None
   may_cancel t r e = subst (λ (b : Bool). cancel_refused now b t ≡ None) r e

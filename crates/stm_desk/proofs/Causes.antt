@@ -20,7 +20,7 @@ use Rattle.stm_eval.specs.Laws.{In}
 use Rattle.stm_eval.proofs.FragmentsAndStores.{looked}
 use Rattle.stm_events.specs.declared.event.Event.{Event}
 use Rattle.stm_events.specs.declared.event.What.{What}
-use Rattle.stm_events.specs.declared.event.What.TheVariants.{Submitted, Installed, Finished, Cancelled, Declared as DeclaredLate}
+use Rattle.stm_events.specs.declared.event.What.TheVariants.{Submitted, Installed, Finished, Cancelled, Declared as DeclaredLate, Labelled}
 use Rattle.stm_events.specs.declared.staleness.StalenessRule.TheVariants.{Written, Changed}
 use Rattle.stm_events.specs.Headline.{is_installed, waking_at, waking_from}
 use Rattle.stm_events.specs.Laws.{SubmittedAreWellTyped}
@@ -52,6 +52,7 @@ FitsHere s (Installed t v) = Unit {0}
 FitsHere s (Finished t v n stale) = IsFinish s v n
 FitsHere s (Cancelled t) = Unit {0}
 FitsHere s (DeclaredLate name kind value) = Unit {0}
+FitsHere s (Labelled t label) = Unit {0}
 
 abbrev FitFrom : Slow → List Event → Type 0
 FitFrom s [] = Unit {0}
@@ -70,6 +71,7 @@ fits_here s (Installed t v) possible typed a = tt
 fits_here s (Finished t v n l) possible typed a = finish_fits s t v n l (find_waiter t s.waiters) possible typed refl a
 fits_here s (Cancelled t) possible typed a = tt
 fits_here s (DeclaredLate name kind value) possible typed a = tt
+fits_here s (Labelled t label) possible typed a = tt
 
 fit_from : (s : Slow) (es : List Event) → IsPossible s → IsTypedState s → LegalFrom s es → SubmittedAreWellTyped es → FitFrom s es
 fit_from s [] possible state legal typed = tt
@@ -100,6 +102,7 @@ writable_what s (Installed t v) f = tt
 writable_what s (Finished t v n l) f = writable_by s v n f
 writable_what s (Cancelled t) f = tt
 writable_what s (DeclaredLate name kind value) f = tt
+writable_what s (Labelled t label) f = tt
 
 writable_from : (s : Slow) (es : List Event) → FitFrom s es → EachIsWritable es
 writable_from s [] f = tt
@@ -125,6 +128,7 @@ told_here reads s (Finished t v n l) f h =
 told_here reads s (Cancelled t) f h = (unchanged reads (under s.store) h, λ e. h)
 told_here reads s (DeclaredLate name kind value) f h =
     let there = declared_read reads s.store kind value h in (unchanged reads (under (applied s.store (declaration kind value))) there, λ e. there)
+told_here reads s (Labelled t label) f h = (unchanged reads (under s.store) h, λ e. h)
 
 cause_same : (t : ℕ) (cs ds : List Change) (f g : Option Cause) → cs ≡ ds → (ds ≡ [] → f ≡ g) → cause_or t cs f ≡ cause_or t ds g
 cause_same t cs [] f g e more = ap (λ (xs : List Change). cause_or t xs f) e ∙ more refl
@@ -152,6 +156,7 @@ not_woken s (Installed t v) i x r f e g = refl
 not_woken s (Finished t v n l) i x r f e g = rw r (unchanged_by (list_any (nat_eq i) (changed_by s.store v)) s.store v i x refl f.fits e g)
 not_woken s (Cancelled t) i x r f e g = refl
 not_woken s (DeclaredLate name kind value) i x r f e g = refl
+not_woken s (Labelled t label) i x r f e g = refl
 
 neither : (a b : Bool) → a ≡ false → b ≡ false → (a || b) ≡ false
 neither a b g h = rw (g, h) refl

@@ -2,10 +2,12 @@ pub mod Atomically
 pub mod Calls
 pub mod Causes
 pub mod Checkpointed
+pub mod CheckpointLabels
 pub mod DrainServes
 pub mod Evaluating
 pub mod EventsSince
 pub mod FoundWrites
+pub mod Labels
 pub mod Limit
 pub mod ReadValues
 pub mod ReasonsTold

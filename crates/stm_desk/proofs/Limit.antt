@@ -9,6 +9,8 @@ use Rattle.stm_events.specs.declared.errors.SubmitError.{SubmitError}
 use Rattle.stm_events.specs.declared.errors.SubmitError.TheVariants as submit
 use Rattle.stm_events.specs.declared.errors.LateDeclareError.{LateDeclareError}
 use Rattle.stm_events.specs.declared.errors.LateDeclareError.TheVariants as declare
+use Rattle.stm_events.specs.declared.errors.LabelError.{LabelError}
+use Rattle.stm_events.specs.declared.errors.LabelError.TheVariants as label
 use Rattle.stm_events.specs.declared.errors.CancelError.{CancelError}
 use Rattle.stm_events.specs.declared.errors.CancelError.TheVariants as cancel
 use Rattle.stm_events.specs.declared.errors.DeliverError.{DeliverError}
@@ -16,9 +18,9 @@ use Rattle.stm_events.specs.declared.errors.DeliverError.TheVariants as deliver
 use Rattle.stm_events.specs.declared.errors.FinishError.{FinishError}
 use Rattle.stm_events.specs.declared.errors.FinishError.TheVariants as finish
 use Rattle.stm_events.specs.SlowDesk.{Waiter, under, is_new, is_current, verdict_on}
-use Rattle.stm_events.specs.Refusals.{submit_first, declare_first, cancel_first, blocks_there, overflows, finish_first, differing, overtaken_first, DeliveryRefusedAt}
+use Rattle.stm_events.specs.Refusals.{submit_first, declare_first, label_first, cancel_first, blocks_there, overflows, finish_first, differing, overtaken_first, DeliveryRefusedAt}
 use Rattle.stm_machine.specs.declared.finish.Plan.{Plan}
-use Rattle.stm_desk.specs.Limit.{limited_submit, limited_declare, limited_cancel, limited_delivery, limited_plan}
+use Rattle.stm_desk.specs.Limit.{limited_submit, limited_declare, limited_label, limited_cancel, limited_delivery, limited_plan}
 
 -- ---- submit
 foreign_stays : (full : Bool) (i : ℕ) → limited_submit full (Err (submit.Foreign i)) ≡ Err (submit.Foreign i)
@@ -84,6 +86,30 @@ declare_room true (Err declare.TypeOfValue) = tt
 declare_room true (Err declare.HistoryFull) = tt
 declare_room true (Err declare.CellsFull) = tt
 declare_room true (Err declare.NoMemory) = tt
+
+-- ---- label
+label_stays : (full : Bool) → limited_label full (Err label.NoTicket) ≡ Err label.NoTicket
+label_stays true = refl
+label_stays false = refl
+
+label_full : (r : Result (Unit {0}) LabelError) → RefusedAs label.NoMemory None r → limited_label true r ≡ Err label.HistoryFull
+label_full (Ok x) h = refl
+label_full (Err label.NoTicket) h = cc
+label_full (Err label.HistoryFull) h = refl
+label_full (Err label.NoMemory) h = refl
+
+pub label_limited : (o : Option Waiter) (full : Bool) (r : Result (Unit {0}) LabelError) → RefusedAs label.NoMemory (label_first o false) r → RefusedAs label.NoMemory (label_first o full) (limited_label full r)
+label_limited None full r h = ap (limited_label full) h ∙ label_stays full
+label_limited (Some w) true r h = label_full r h
+label_limited (Some w) false r h = h
+
+pub label_room : (full : Bool) (r : Result (Unit {0}) LabelError) → OnOk (limited_label full r) (full ≡ false)
+label_room false (Ok x) = refl
+label_room false (Err e) = tt
+label_room true (Ok x) = tt
+label_room true (Err label.NoTicket) = tt
+label_room true (Err label.HistoryFull) = tt
+label_room true (Err label.NoMemory) = tt
 
 -- ---- cancel
 ticket_stays : (full : Bool) → limited_cancel full (Err cancel.NoTicket) ≡ Err cancel.NoTicket

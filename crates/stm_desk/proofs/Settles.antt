@@ -3,7 +3,7 @@ use Rattle.std.proofs.Common.{◌≡◌, ℕ, Bool, true, false, not, ◌||◌, 
 use Rattle.std.specs.Prelude.{nat_eq, nat_lt}
 use Rattle.stm_queue.specs.Queue.{Entry, with_ticket, without_ticket, recalled}
 use Rattle.stm_events.specs.declared.event.What.{What}
-use Rattle.stm_events.specs.declared.event.What.TheVariants.{Submitted, Installed, Finished, Cancelled, Declared as DeclaredLate}
+use Rattle.stm_events.specs.declared.event.What.TheVariants.{Submitted, Installed, Finished, Cancelled, Declared as DeclaredLate, Labelled}
 use Rattle.stm_machine.specs.SettleChoices.{some_out}
 use Rattle.stm_machine.specs.QueueAndIndex.{with_tickets}
 use Rattle.stm_desk.specs.DeskView.{pending_after}
@@ -44,6 +44,7 @@ out_after (Installed t v) es h = out_without t es h
 out_after (Finished t v n stale) es h = out_with_all stale es ∙ h
 out_after (Cancelled t) es h = out_without t es h
 out_after (DeclaredLate name kind value) es h = h
+out_after (Labelled t label) es h = h
 
 pub out_recalled : (es : List Entry) → some_out (recalled es) ≡ false
 out_recalled [] = refl

@@ -5,6 +5,8 @@ use Rattle.stm_events.specs.declared.errors.SubmitError.{SubmitError}
 use Rattle.stm_events.specs.declared.errors.SubmitError.TheVariants as submit
 use Rattle.stm_events.specs.declared.errors.LateDeclareError.{LateDeclareError}
 use Rattle.stm_events.specs.declared.errors.LateDeclareError.TheVariants as declare
+use Rattle.stm_events.specs.declared.errors.LabelError.{LabelError}
+use Rattle.stm_events.specs.declared.errors.LabelError.TheVariants as label
 use Rattle.stm_events.specs.declared.errors.CancelError.{CancelError}
 use Rattle.stm_events.specs.declared.errors.CancelError.TheVariants as cancel
 use Rattle.stm_events.specs.declared.errors.DeliverError.{DeliverError}
@@ -29,6 +31,13 @@ limited_declare true (Err declare.TypeOfValue) = Err declare.TypeOfValue
 limited_declare true (Err declare.HistoryFull) = Err declare.HistoryFull
 limited_declare true (Err declare.CellsFull) = Err declare.HistoryFull
 limited_declare true (Err declare.NoMemory) = Err declare.HistoryFull
+
+abbrev pub limited_label : Bool → Result (Unit {0}) LabelError → Result (Unit {0}) LabelError
+limited_label false answer = answer
+limited_label true (Ok x) = Err label.HistoryFull
+limited_label true (Err label.NoTicket) = Err label.NoTicket
+limited_label true (Err label.HistoryFull) = Err label.HistoryFull
+limited_label true (Err label.NoMemory) = Err label.HistoryFull
 
 abbrev pub limited_cancel : Bool → Result (Unit {0}) CancelError → Result (Unit {0}) CancelError
 limited_cancel false answer = answer

@@ -9,7 +9,7 @@ use Rattle.stm_terms.specs.Value.{same_value}
 use Rattle.stm_store.specs.declared.cell.Cell.{Cell}
 use Rattle.stm_events.specs.declared.event.Event.{Event}
 use Rattle.stm_events.specs.declared.event.What.{What}
-use Rattle.stm_events.specs.declared.event.What.TheVariants.{Submitted, Installed, Finished, Cancelled, Declared as DeclaredLate}
+use Rattle.stm_events.specs.declared.event.What.TheVariants.{Submitted, Installed, Finished, Cancelled, Declared as DeclaredLate, Labelled}
 use Rattle.stm_events.specs.BlockStatus.{read_now}
 use Rattle.stm_events.specs.Headline.{installs_to, is_installed}
 use Rattle.stm_events.specs.SlowDesk.{Since, Slow, Waiter, after, find_waiter, is_current, is_new, is_stale_since, under}
@@ -27,13 +27,14 @@ abbrev pub changes_from : List (ℕ × Value) → Variables → List Change
 changes_from [] variables = []
 changes_from (r ∷ rs) variables = change_to r.0 r.1 (variables r.0) ++ changes_from rs variables
 
--- the ticket of an event; 0 for a declaration, which is the cause of nothing
+-- the ticket of an event; 0 for a declaration
 abbrev pub ticket_of : What → ℕ
 ticket_of (Submitted t block) = t
 ticket_of (Installed t v) = t
 ticket_of (Finished t v n stale) = t
 ticket_of (Cancelled t) = t
 ticket_of (DeclaredLate name kind value) = 0
+ticket_of (Labelled t label) = t
 
 -- why a block is stale: the ticket of a finish, and the variables that the block had read and that were left with other values
 pub record Cause : Type 0 where

@@ -10,7 +10,7 @@ use Rattle.stm_store.specs.Cells.{renumbered, written_by}
 use Rattle.stm_store.specs.FreshReferences.{AreWritable}
 use Rattle.stm_events.specs.declared.event.Event.{Event}
 use Rattle.stm_events.specs.declared.event.What.{What}
-use Rattle.stm_events.specs.declared.event.What.TheVariants.{Submitted, Installed, Finished, Cancelled, Declared as DeclaredLate}
+use Rattle.stm_events.specs.declared.event.What.TheVariants.{Submitted, Installed, Finished, Cancelled, Declared as DeclaredLate, Labelled}
 use Rattle.stm_events.specs.Headline.{installs_to, is_installed}
 use Rattle.stm_machine.specs.declared.checkpoint.CheckpointBlock.{CheckpointBlock}
 use Rattle.stm_machine.specs.Checkpoints.{CheckpointView}
@@ -34,6 +34,7 @@ changes_told reads (Installed t v) = []
 changes_told reads (Finished t v n stale) = changes_from reads (left_by_verdict n v)
 changes_told reads (Cancelled t) = []
 changes_told reads (DeclaredLate name kind value) = []
+changes_told reads (Labelled t label) = []
 
 -- the first of these events that changed variables of the reads, by what they write
 abbrev pub cause_told : List (ℕ × Value) → List Event → Option Cause
@@ -74,6 +75,7 @@ IsWritable (Installed t v) = Unit {0}
 IsWritable (Finished t v n stale) = HasWritable n v
 IsWritable (Cancelled t) = Unit {0}
 IsWritable (DeclaredLate name kind value) = Unit {0}
+IsWritable (Labelled t label) = Unit {0}
 
 -- of each of these events
 abbrev pub EachIsWritable : List Event → Type 0

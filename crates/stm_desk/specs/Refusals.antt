@@ -8,12 +8,13 @@ use Rattle.stm_check.specs.TypedBlock.{Block}
 use Rattle.stm_eval.specs.declared.message.Evaluated.{Evaluated}
 use Rattle.stm_eval.specs.EvaluatedFields.{message_ticket, message_block, message_reads}
 use Rattle.stm_events.specs.declared.errors.SubmitError.{SubmitError}
+use Rattle.stm_events.specs.declared.errors.LabelError.{LabelError}
 use Rattle.stm_events.specs.declared.errors.CancelError.{CancelError}
 use Rattle.stm_events.specs.declared.errors.LateDeclareError.{LateDeclareError}
 use Rattle.stm_events.specs.declared.errors.DeliverError.{DeliverError}
 use Rattle.stm_events.specs.declared.errors.FinishError.{FinishError}
 use Rattle.stm_events.specs.SlowDesk.{Slow, verdict_on, max_waiting}
-use Rattle.stm_events.specs.Refusals.{missing, blocks_there, overflows, submit_refused, late_declare_refused, cancel_refused, finish_refused, DeliveryRefusedAs, pending_left}
+use Rattle.stm_events.specs.Refusals.{missing, blocks_there, overflows, submit_refused, late_declare_refused, label_refused, cancel_refused, finish_refused, DeliveryRefusedAs, pending_left}
 use Rattle.stm_desk.specs.declared.errors.AtomicError.{AtomicError}
 use Rattle.stm_desk.specs.declared.errors.AtomicError.TheVariants as atomic
 use Rattle.stm_desk.specs.DeskView.{DeskView, state_of, is_full, lacks_room}
@@ -25,6 +26,10 @@ submit_refusal d block = submit_refused (state_of d) (is_full d) block
 -- why a variable can't be declared, if it can't; the caller knows that the name is one
 abbrev pub late_declare_refusal : DeskView → List ℕ → Ty → Value → Option LateDeclareError
 late_declare_refusal d name kind value = late_declare_refused (state_of d) (is_full d) name kind value
+
+-- why the block under a ticket can't get a label, if it can't; the caller knows that the text is one
+abbrev pub label_refusal : DeskView → ℕ → Option LabelError
+label_refusal d t = label_refused (state_of d) (is_full d) t
 
 -- why a ticket can't be cancelled, if it can't
 abbrev pub cancel_refusal : DeskView → ℕ → Option CancelError

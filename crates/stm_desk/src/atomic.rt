@@ -213,6 +213,7 @@ impl Desk {
         let plan = self.machine.plan_run(verdict)?;
         let events = ended_events(&mut self.history, client, ticket, block, &plan)?;
         let applied = self.machine.run(&plan)?;
+        self.labels.remove(ticket);
         push_three(&mut self.history, events);
         Ok((ticket, finish_by(plan, applied)))
     }

@@ -50,6 +50,7 @@ impl Desk {
         }
         self.history.reserve(1)?;
         self.machine.cancel(ticket);
+        self.labels.remove(ticket);
         self.history.push_reserved(Event {
             client,
             what: What::Cancelled { ticket },

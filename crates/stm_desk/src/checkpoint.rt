@@ -2,16 +2,16 @@
 
 ghost use Rattle.std.specs.Prelude.{◌≡◌, ◌<◌, ◌≤◌, ◌↔◌, length, Some, option_map, IfOk, OnOk, OnErr, IsErrOf};
 ghost use Rattle.stm_events.specs.States.{observed};
-ghost use Rattle.stm_machine.specs.Checkpoints.{MayStart, checkpoint_of, max_next};
-ghost use Rattle.stm_desk.specs.DeskView.{state_of, checkpointed};
+ghost use Rattle.stm_machine.specs.Checkpoints.{MayStart, max_next};
+ghost use Rattle.stm_desk.specs.DeskView.{state_of, checkpoint_now, checkpointed};
 
 use crate::desk::Desk;
 use stm_machine::{Checkpoint, CheckpointError};
 
 impl Desk {
-    /// The checkpoint of the present state, from which the history can begin (`begin_from`).
+    /// The checkpoint of the present state, with the labels of its blocks, from which the history can begin (`begin_from`).
     pub fn next_checkpoint(&self) -> Result<Checkpoint, CheckpointError>
-        ensures taken { IfOk result (λ c. c ≡ checkpoint_of (state_of self.now)) }
+        ensures taken { IfOk result (λ c. c ≡ checkpoint_now self.now) }
         ensures start { IfOk result (λ c. MayStart self.now.table (Some c)) }
         // Refused if and only if tickets could run out in a history from here, or for lack of memory.
         ensures room { OnOk result ((state_of self.now).next ≤ max_next) }
@@ -21,7 +21,7 @@ impl Desk {
         // The variables are known to be well typed by this.
         let _variables = self.table.len();
         let alloc = *self.history.allocator();
-        let checkpoint = match self.machine.checkpoint(alloc) {
+        let checkpoint = match self.machine.checkpoint(alloc, &self.labels) {
             Ok(checkpoint) => checkpoint,
             Err(refused) => return Err(refused),
         };
@@ -34,7 +34,7 @@ impl Desk {
     /// differs, except that the history has room for as many events as the desk takes, and that `why` no longer knows why a block
     /// became stale before. Queued tickets stay queued, and tickets that are out stay out.
     pub fn begin_from(&mut self, checkpoint: Checkpoint) -> u32
-        requires { checkpoint ≡ checkpoint_of (state_of self.old) }
+        requires { checkpoint ≡ checkpoint_now self.old }
         ensures events { result ≡ length self.old.history }
         ensures taken { self.new ≡ checkpointed self.old }
         // The same is observed of the state before and of the state after, so no later event or question tells them apart.

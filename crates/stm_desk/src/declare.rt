@@ -17,7 +17,7 @@ use stm_terms::kinds::Ty;
 use stm_terms::values::Value;
 
 /// A name that many may hold, of this text.
-fn shared_name(alloc: Global, name: &str) -> Result<SharedName, NoMemory>
+pub(crate) fn shared_name(alloc: Global, name: &str) -> Result<SharedName, NoMemory>
     ensures { IfOk result (λ n. n ≡ name.now) }
 {
     SharedName::new(alloc, String::from_str(alloc, name)?)

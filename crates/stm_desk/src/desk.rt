@@ -6,7 +6,7 @@ ghost use Rattle.stm_desk.specs.DeskView.{is_full};
 
 use std::alloc::Global;
 use std::marker::Model;
-use stm_events::{Event, StalenessRule};
+use stm_events::{Event, LabelTable, StalenessRule};
 use stm_machine::{Checkpoint, Machine};
 use stm_store::Table;
 use stm_terms::NoMemory;
@@ -19,6 +19,7 @@ pub struct Desk {
     pub(crate) limit: u32,
     pub(crate) history: Vec<Event>,
     pub(crate) machine: Machine,
+    pub(crate) labels: LabelTable,
 }
 
 // Written out, and not derived, so that the proof of each owner calls it once.
@@ -30,6 +31,7 @@ impl Drop for Desk {
             limit: _,
             history: _,
             machine: _,
+            labels: _,
         } = self;
     }
 }
@@ -38,7 +40,7 @@ impl Model for Desk {
     ghost use Rattle.std.specs.Coded.{codes};
     ghost use Rattle.stm_terms.specs.TreeEncoding.{act_code};
     ghost use Rattle.stm_desk.specs.DeskView.{DeskView};
-    ghost use Rattle.stm_desk.specs.Kept.{DeskInvariant};
+    ghost use Rattle.stm_desk.specs.Kept.{DeskInvariant, HasLabels};
 
     ghost Value = { DeskView };
 
@@ -52,7 +54,8 @@ impl Model for Desk {
       pending = d.machine.pending;
     } };
 
-    ghost invariant = { λ d. DeskInvariant d.table d.checkpoint d.limit d.history.items d.machine };
+    ghost invariant = { λ d. DeskInvariant d.table d.checkpoint d.limit d.history.items d.machine
+        × HasLabels d.checkpoint d.history.items d.labels };
 }
 
 impl Desk {
@@ -79,6 +82,7 @@ impl Desk {
             limit: max_events,
             history: Vec::new(alloc),
             machine,
+            labels: LabelTable::empty(alloc),
         })
     }
 

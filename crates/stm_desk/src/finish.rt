@@ -112,6 +112,7 @@ impl Desk {
     {
         let event = finished_event(&mut self.history, client, ticket, plan)?;
         let applied = self.machine.finish(ticket, plan)?;
+        self.labels.remove(ticket);
         self.history.push_reserved(event);
         Ok(applied)
     }

@@ -17,6 +17,7 @@ pub mod deliver;
 pub mod desk;
 pub mod evaluate;
 pub mod finish;
+pub mod label;
 pub mod reason;
 pub mod resume;
 pub mod settle;
@@ -37,6 +38,7 @@ pub use reason::{Change, Reason};
 pub use resume::TooManyEvents;
 pub use settle::Settled;
 pub use stm_events::{
-    CancelError, DeliverError, FinishError, LateDeclareError, Status, SubmitError,
+    CancelError, DeliverError, FinishError, LabelError, LabelTable, LateDeclareError, Status,
+    SubmitError,
 };
 pub use stm_machine::{Checkpoint, CheckpointError};

@@ -1,16 +1,17 @@
 //! A desk that goes on from where a history ends.
 
 ghost use Rattle.std.specs.Prelude.{◌≡◌, ◌≤◌, ◌↔◌, false, length, IsOk, IfOk};
+ghost use Rattle.stm_events.specs.Labels.{labels_from};
 ghost use Rattle.stm_events.specs.Laws.{SubmittedAreWellTyped};
 ghost use Rattle.stm_events.specs.SlowDesk.{state_from, max_events as most_events};
 ghost use Rattle.stm_events.specs.States.{IsLegalFrom};
-ghost use Rattle.stm_machine.specs.Checkpoints.{start_of, MayStart};
+ghost use Rattle.stm_machine.specs.Checkpoints.{start_of, first_labels, MayStart};
 ghost use Rattle.stm_machine.specs.Machine.{IsAt};
 ghost use Rattle.stm_machine.specs.SettleChoices.{some_out};
 ghost use Rattle.stm_desk.specs.DeskView.{DeskQueueIsRight};
 
 use crate::desk::Desk;
-use stm_events::Event;
+use stm_events::{Event, LabelTable};
 use stm_machine::{Checkpoint, Machine};
 use stm_store::Table;
 use thiserror::Error;
@@ -25,12 +26,13 @@ impl Desk {
     /// is queued, and none is out. It takes `max_events` events, with those that are there. Nothing is allocated, and no block is
     /// evaluated.
     ///
-    /// `stm_history::load_history` returns the four for the text of a history.
+    /// `stm_history::load_history` returns the five for the text of a history.
     pub fn resume(
         table: Table,
         checkpoint: Option<Checkpoint>,
         events: Vec<Event>,
         mut machine: Machine,
+        labels: LabelTable,
         max_events: u32,
     ) -> Result<Desk, TooManyEvents>
         // The history is legal, and the machine is at the state that it leads to.
@@ -38,6 +40,8 @@ impl Desk {
         requires legal { IsLegalFrom (start_of table checkpoint) events.items }
         requires at { IsAt machine (state_from (start_of table checkpoint) events.items) }
         requires typed { SubmittedAreWellTyped events.items }
+        // The labels are those that the events give.
+        requires labels { labels ≡ labels_from (first_labels checkpoint) events.items }
         requires small { max_events ≤ most_events }
         ensures fits { IsOk result ↔ (length events.items ≤ max_events) }
         ensures table { IfOk result (λ d. d.table ≡ table) }
@@ -57,6 +61,7 @@ impl Desk {
             limit: max_events,
             history: events,
             machine,
+            labels,
         };
         // The queue is known to be right by this.
         let _queue = desk.waiting();

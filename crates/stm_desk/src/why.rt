@@ -180,6 +180,7 @@ fn ticket_of(what: &What) -> u32
         What::Finished { ticket, .. } => *ticket,
         What::Cancelled { ticket } => *ticket,
         What::Declared { .. } => 0,
+        What::Labelled { ticket, .. } => *ticket,
     }
 }
 

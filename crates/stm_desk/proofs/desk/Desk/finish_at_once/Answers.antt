@@ -11,6 +11,7 @@ use Rattle.stm_desk.specs.DeskView.{DeskView, state_of, lacks_room}
 use Rattle.stm_desk.specs.Settling.{with_whats}
 use Rattle.stm_desk.proofs.Atomically.{kept_moves, three_more, has_room, ended_whats, ended, not_full}
 use Rattle.stm_desk.proofs.Calls.{ticket_left}
+use Rattle.stm_desk.proofs.Labels.{label_goes_at_once}
 use Rattle.stm_desk.proofs.desk.Desk.finish_at_once.Goals as goal
 
 pub run-requires : goal.run-requires
@@ -19,8 +20,8 @@ run-requires c =
     let r = subst (λ (d : DeskView). lacks_room d 3 ≡ false) (sym c.self.view_is) c.requires.room in
     let f = subst (λ (d : DeskView). Fits (plains (state_of d).store) c.args.verdict.now) (sym c.self.view_is) c.requires.fits in
     let o = subst (λ (d : DeskView). overflows (state_of d).store (Some c.args.verdict.now) ≡ false) (sym c.self.view_is) c.requires.cells in
-    let p : IsRunPlan s c.in_ok-plan.plan.verdict c.in_ok-plan.plan.first_new c.in_ok-plan.plan.stale = rw c.in_ok-plan.ensures.verdict (c.in_ok-plan.ensures.plan s c.self.invariant.at f c.requires.ends o) in
-    (s, c.self.invariant.at, ticket_left _ _ _ _ _ c.self.invariant (not_full _ _ 3 r (omega arith)), p)
+    let p : IsRunPlan s c.in_ok-plan.plan.verdict c.in_ok-plan.plan.first_new c.in_ok-plan.plan.stale = rw c.in_ok-plan.ensures.verdict (c.in_ok-plan.ensures.plan s c.self.invariant.0.at f c.requires.ends o) in
+    (s, c.self.invariant.0.at, ticket_left _ _ _ _ _ c.self.invariant.0 (not_full _ _ 3 r (omega arith)), p)
 
 pub invariant_of-self-2 : goal.invariant_of-self-2
 invariant_of-self-2 c =
@@ -28,12 +29,15 @@ invariant_of-self-2 c =
     let e = subst (λ (d : DeskView). submit_refused (state_of d) false c.args.block ≡ None) (sym c.self.view_is) c.requires.allowed in
     let r = subst (λ (d : DeskView). lacks_room d 3 ≡ false) (sym c.self.view_is) c.requires.room in
     let v = subst (λ (d : DeskView). verdict_on (state_of d).store c.args.block ≡ Some c.args.verdict.now) (sym c.self.view_is) c.requires.verdict in
-    let moves = c.in_ok-applied.ensures.moved s c.args.block c.self.invariant.at e (v ∙ ap Some (sym c.in_ok-plan.ensures.verdict)) in
-    let next : c.next_ticket-ticket.result ≡ s.next = c.next_ticket-ticket.ensures.next s c.self.invariant.at in
-    rw (c.push_three.ensures, c.in_ok-events.ensures.submitted, c.in_ok-events.ensures.installed, c.in_ok-events.ensures.finished, c.in_ok-events.ensures.items, next, three_more)
-    (kept_moves _ _ _ _ _ c.self.invariant c.args.client
-    (Submitted s.next c.args.block ∷ Installed s.next c.in_ok-plan.plan.verdict ∷ Finished s.next c.in_ok-plan.plan.verdict c.in_ok-plan.plan.first_new c.in_ok-plan.plan.stale ∷ []) c.run.new.self
-    c.requires.client (has_room _ _ 3 r) (c.say_typed.ensures, (tt, (tt, tt))) moves.0 moves.1)
+    let moves = c.in_ok-applied.ensures.moved s c.args.block c.self.invariant.0.at e (v ∙ ap Some (sym c.in_ok-plan.ensures.verdict)) in
+    let next : c.next_ticket-ticket.result ≡ s.next = c.next_ticket-ticket.ensures.next s c.self.invariant.0.at in
+    rw (c.push_three.ensures, c.in_ok-events.ensures.submitted, c.in_ok-events.ensures.installed, c.in_ok-events.ensures.finished, c.in_ok-events.ensures.items, c.remove.ensures, next, three_more) (
+      kept_moves _ _ _ _ _ c.self.invariant.0 c.args.client
+          (Submitted s.next c.args.block ∷ Installed s.next c.in_ok-plan.plan.verdict ∷ Finished s.next c.in_ok-plan.plan.verdict c.in_ok-plan.plan.first_new c.in_ok-plan.plan.stale ∷ []) c.run.new.self
+          c.requires.client (has_room _ _ 3 r) (c.say_typed.ensures, (tt, (tt, tt))) moves.0 moves.1,
+      label_goes_at_once _ _ _ c.self.invariant.1 c.args.client (Submitted s.next c.args.block) (Installed s.next c.in_ok-plan.plan.verdict)
+          (Finished s.next c.in_ok-plan.plan.verdict c.in_ok-plan.plan.first_new c.in_ok-plan.plan.stale) s.next refl refl refl,
+    )
 
 pub returns-clause-accepted : goal.returns-clause-accepted
 returns-clause-accepted c =
@@ -42,17 +46,17 @@ returns-clause-accepted c =
     let v = subst (λ (d : DeskView). verdict_on (state_of d).store c.args.block ≡ Some c.args.verdict.now) (sym c.self.view_is) c.requires.verdict in
     let f = subst (λ (d : DeskView). Fits (plains (state_of d).store) c.args.verdict.now) (sym c.self.view_is) c.requires.fits in
     let o = subst (λ (d : DeskView). overflows (state_of d).store (Some c.args.verdict.now) ≡ false) (sym c.self.view_is) c.requires.cells in
-    let p : IsRunPlan s c.in_ok-plan.plan.verdict c.in_ok-plan.plan.first_new c.in_ok-plan.plan.stale = rw c.in_ok-plan.ensures.verdict (c.in_ok-plan.ensures.plan s c.self.invariant.at f c.requires.ends o) in
-    let next : c.next_ticket-ticket.result ≡ s.next = c.next_ticket-ticket.ensures.next s c.self.invariant.at in
+    let p : IsRunPlan s c.in_ok-plan.plan.verdict c.in_ok-plan.plan.first_new c.in_ok-plan.plan.stale = rw c.in_ok-plan.ensures.verdict (c.in_ok-plan.ensures.plan s c.self.invariant.0.at f c.requires.ends o) in
+    let next : c.next_ticket-ticket.result ≡ s.next = c.next_ticket-ticket.ensures.next s c.self.invariant.0.at in
     rw (c.push_three.ensures, c.in_ok-events.ensures.submitted, c.in_ok-events.ensures.installed, c.in_ok-events.ensures.finished, c.in_ok-events.ensures.items, next, c.in_ok-applied.ensures.pending)
-    (ended d c.self.inside.machine c.args.client c.args.block c.in_ok-plan.plan.verdict c.in_ok-plan.plan.first_new c.in_ok-plan.plan.stale c.self.invariant.at refl (v ∙ ap Some (sym c.in_ok-plan.ensures.verdict)) p
+    (ended d c.self.inside.machine c.args.client c.args.block c.in_ok-plan.plan.verdict c.in_ok-plan.plan.first_new c.in_ok-plan.plan.stale c.self.invariant.0.at refl (v ∙ ap Some (sym c.in_ok-plan.ensures.verdict)) p
     ∙ ap (λ (x : DeskView). with_whats x c.args.client (atomically (state_of x) c.args.block)) c.self.view_is)
 
 pub returns-clause-events : goal.returns-clause-events
 returns-clause-events c =
     let d : DeskView = record { table = c.self.inside.table; checkpoint = c.self.inside.checkpoint; limit = c.self.inside.limit; history = c.self.inside.history.items; pending = c.self.inside.machine.pending } in
     let s = state_of d in
-    let k = c.self.invariant.at in
+    let k = c.self.invariant.0.at in
     let v = subst (λ (d : DeskView). verdict_on (state_of d).store c.args.block ≡ Some c.args.verdict.now) (sym c.self.view_is) c.requires.verdict in
     let f = subst (λ (d : DeskView). Fits (plains (state_of d).store) c.args.verdict.now) (sym c.self.view_is) c.requires.fits in
     let o = subst (λ (d : DeskView). overflows (state_of d).store (Some c.args.verdict.now) ≡ false) (sym c.self.view_is) c.requires.cells in
@@ -65,7 +69,7 @@ returns-clause-events c =
 
 pub returns-clause-applied : goal.returns-clause-applied
 returns-clause-applied c =
-    let k = c.self.invariant.at in
+    let k = c.self.invariant.0.at in
     rw (c.finish_by.ensures.applied, c.finish_by.ensures.verdict)
     (c.in_ok-applied.ensures.applied ∙ ap (λ (z : List Cell). applied_answer z c.in_ok-plan.plan.verdict) k.stands.store_is
     ∙ ap (λ (x : DeskView). applied_answer (state_of x).store c.in_ok-plan.plan.verdict) c.self.view_is)

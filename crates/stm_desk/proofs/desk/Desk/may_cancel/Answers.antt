@@ -14,7 +14,7 @@ returns-clause-refused c =
     let s = state_of d in
     let t = c.args.ticket in
     let g : RefusedAs NoMemory (cancel_refusal d t) (limited_cancel (is_full d) c.may_cancel.result) =
-    cancel_limited (find_waiter t s.waiters) (is_full d) c.may_cancel.result (c.may_cancel.ensures s c.self.invariant.at) in
+    cancel_limited (find_waiter t s.waiters) (is_full d) c.may_cancel.result (c.may_cancel.ensures s c.self.invariant.0.at) in
     rw (c.limit_cancel.ensures, c.is_full.ensures) (subst (λ (x : DeskView). RefusedAs NoMemory (cancel_refusal x t) (limited_cancel (is_full x) c.may_cancel.result)) c.self.view_is g)
 
 pub returns-clause-room : goal.returns-clause-room

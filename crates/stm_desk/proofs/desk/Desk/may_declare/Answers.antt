@@ -18,7 +18,7 @@ returns-clause-refused c =
     let kind = c.args.kind in
     let value = c.args.value in
     let g : RefusedAs NoMemory (late_declare_refusal d name kind value) (limited_declare (is_full d) c.may_declare.result) =
-    declare_limited (is_some (number_named name s.names)) (may_hold_known s.names kind value) (is_full d) (nat_lt (length s.store) max_cells) c.may_declare.result (c.may_declare.ensures s c.self.invariant.at) in
+    declare_limited (is_some (number_named name s.names)) (may_hold_known s.names kind value) (is_full d) (nat_lt (length s.store) max_cells) c.may_declare.result (c.may_declare.ensures s c.self.invariant.0.at) in
     rw (c.limit_declare.ensures, c.is_full.ensures) (subst (λ (x : DeskView). RefusedAs NoMemory (late_declare_refusal x name kind value) (limited_declare (is_full x) c.may_declare.result)) c.self.view_is g)
 
 pub returns-clause-room : goal.returns-clause-room

@@ -20,7 +20,7 @@ returns-clause-refused c =
     let s = state_of d in
     let m = c.args.message.now in
     let g : RefusesDelivery (limited_delivery (is_full d) c.may_deliver.result) d m =
-    delivery_limited s.store (is_full d) (find_waiter (message_ticket m) s.waiters) (message_block m) (message_reads m) c.may_deliver.result (c.may_deliver.ensures.refused s c.self.invariant.at) in
+    delivery_limited s.store (is_full d) (find_waiter (message_ticket m) s.waiters) (message_block m) (message_reads m) c.may_deliver.result (c.may_deliver.ensures.refused s c.self.invariant.0.at) in
     rw (c.limit_delivery.ensures, c.is_full.ensures) (subst (λ (x : DeskView). RefusesDelivery (limited_delivery (is_full x) c.may_deliver.result) x m) c.self.view_is g)
 
 pub returns-clause-allowed : goal.returns-clause-allowed
@@ -28,7 +28,7 @@ returns-clause-allowed c =
     let d : DeskView = record { table = c.self.inside.table; checkpoint = c.self.inside.checkpoint; limit = c.self.inside.limit; history = c.self.inside.history.items; pending = c.self.inside.machine.pending } in
     let m = c.args.message.now in
     let g : OnOk (limited_delivery (is_full d) c.may_deliver.result) (MayDeliver (state_of d) m) =
-    delivery_allowed (MayDeliver (state_of d) m) (is_full d) c.may_deliver.result (at_state c.may_deliver.result c.self.inside.machine (state_of d) m c.self.invariant.at c.may_deliver.ensures.allowed) in
+    delivery_allowed (MayDeliver (state_of d) m) (is_full d) c.may_deliver.result (at_state c.may_deliver.result c.self.inside.machine (state_of d) m c.self.invariant.0.at c.may_deliver.ensures.allowed) in
     rw (c.limit_delivery.ensures, c.is_full.ensures) (subst (λ (x : DeskView). OnOk (limited_delivery (is_full x) c.may_deliver.result) (MayDeliver (state_of x) m)) c.self.view_is g)
 
 pub returns-clause-room : goal.returns-clause-room

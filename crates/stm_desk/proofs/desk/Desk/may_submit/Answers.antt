@@ -16,7 +16,7 @@ returns-clause-refused c =
     let d : DeskView = record { table = c.self.inside.table; checkpoint = c.self.inside.checkpoint; limit = c.self.inside.limit; history = c.self.inside.history.items; pending = c.self.inside.machine.pending } in
     let s = state_of d in
     let block = c.args.block.now in
-    let h = c.may_submit.ensures s c.self.invariant.at in
+    let h = c.may_submit.ensures s c.self.invariant.0.at in
     let g : RefusedAs NoMemory (submit_refusal d block) (limited_submit (is_full d) c.may_submit.result) =
     submit_limited (missing (plains s.store) block.uses) (nat_le max_waiting (length s.waiters)) (is_full d) c.may_submit.result h in
     rw (c.limit_submit.ensures, c.is_full.ensures) (subst (λ (x : DeskView). RefusedAs NoMemory (submit_refusal x block) (limited_submit (is_full x) c.may_submit.result)) c.self.view_is g)

@@ -14,4 +14,4 @@ due_now m s (Some t) k h = h s k
 pub returns-clause-due : goal.returns-clause-due
 returns-clause-due c =
     subst (λ (d : DeskView). IfSome c.next_queued.result (λ t. due_of (find_waiter t (state_of d).waiters) ≡ true)) c.self.view_is
-    (due_now c.self.inside.machine (state_from (start_of c.self.inside.table c.self.inside.checkpoint) c.self.inside.history.items) c.next_queued.result c.self.invariant.at c.next_queued.ensures.due)
+    (due_now c.self.inside.machine (state_from (start_of c.self.inside.table c.self.inside.checkpoint) c.self.inside.history.items) c.next_queued.result c.self.invariant.0.at c.next_queued.ensures.due)

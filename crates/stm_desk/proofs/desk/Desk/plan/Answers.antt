@@ -23,7 +23,7 @@ returns-clause-refused c =
     let s = state_of d in
     let t = c.args.ticket in
     let g : RefusedAs NoMemory (finish_refusal d t) (limited_plan (is_full d) c.plan.result) =
-    finish_limited s.store (is_full d) (find_waiter t s.waiters) c.plan.result (c.plan.ensures.refused s c.self.invariant.at) in
+    finish_limited s.store (is_full d) (find_waiter t s.waiters) c.plan.result (c.plan.ensures.refused s c.self.invariant.0.at) in
     rw (c.limit_plan.ensures, c.is_full.ensures) (subst (λ (x : DeskView). RefusedAs NoMemory (finish_refusal x t) (limited_plan (is_full x) c.plan.result)) c.self.view_is g)
 
 pub returns-clause-plan : goal.returns-clause-plan
@@ -31,7 +31,7 @@ returns-clause-plan c =
     let d : DeskView = record { table = c.self.inside.table; checkpoint = c.self.inside.checkpoint; limit = c.self.inside.limit; history = c.self.inside.history.items; pending = c.self.inside.machine.pending } in
     let t = c.args.ticket in
     let g : IfOk (limited_plan (is_full d) c.plan.result) (λ p. IsPlan (state_of d) t p.verdict p.first_new p.stale) =
-    plan_limited (λ p. IsPlan (state_of d) t p.verdict p.first_new p.stale) (is_full d) c.plan.result (at_state c.plan.result c.self.inside.machine (state_of d) t c.self.invariant.at c.plan.ensures.plan) in
+    plan_limited (λ p. IsPlan (state_of d) t p.verdict p.first_new p.stale) (is_full d) c.plan.result (at_state c.plan.result c.self.inside.machine (state_of d) t c.self.invariant.0.at c.plan.ensures.plan) in
     rw (c.limit_plan.ensures, c.is_full.ensures) (subst (λ (x : DeskView). IfOk (limited_plan (is_full x) c.plan.result) (λ p. IsPlan (state_of x) t p.verdict p.first_new p.stale)) c.self.view_is g)
 
 pub returns-clause-room : goal.returns-clause-room

@@ -1,11 +1,25 @@
-use Rattle.std.proofs.Common.{◌∙◌, [], ap}
+use Rattle.std.proofs.Common.{◌∙◌, [], ap, arith}
 use Rattle.stm_events.specs.SlowDesk.{state_from}
 use Rattle.stm_machine.specs.Checkpoints.{start_of}
 use Rattle.stm_machine.specs.Machine.{Parts}
 use Rattle.stm_machine.specs.SettleChoices.{some_out}
 use Rattle.stm_desk.specs.DeskView.{DeskView}
+use Rattle.stm_desk.proofs.CheckpointLabels.{labels_begin}
 use Rattle.stm_desk.proofs.Runs.{out_back}
 use Rattle.stm_desk.proofs.desk.Desk.resume.Goals as goal
+
+pub invariant_of-desk : goal.invariant_of-desk
+invariant_of-desk c = (
+  record {
+    start = c.requires.start;
+    legal = c.requires.legal;
+    at = c.recall.ensures.kept (state_from (start_of c.args.table c.args.checkpoint) c.args.events.items) c.requires.at;
+    few = omega arith;
+    small = c.requires.small;
+    typed = c.requires.typed;
+  },
+  labels_begin c.args.table c.args.checkpoint c.args.events.items c.args.labels c.requires.start c.requires.legal.each c.requires.labels,
+)
 
 pub returns-clause-queue : goal.returns-clause-queue
 returns-clause-queue c = (c.recall.ensures.kept (state_from (start_of c.args.table c.args.checkpoint) c.args.events.items) c.requires.at).stands.queue

@@ -12,15 +12,15 @@ pub verdict_in-requires-clause-waits : goal.verdict_in-requires-clause-waits
 verdict_in-requires-clause-waits c =
     let d : DeskView = record { table = c.self.inside.table; checkpoint = c.self.inside.checkpoint; limit = c.self.inside.limit; history = c.self.inside.history.items; pending = c.self.inside.machine.pending } in
     let n = subst (λ (d : DeskView). due_of (find_waiter c.args.ticket (state_of d).waiters) ≡ true) (sym c.self.view_is) c.requires.due in
-    (state_of d, c.self.invariant.at, due_is_there (find_waiter c.args.ticket (state_of d).waiters) n)
+    (state_of d, c.self.invariant.0.at, due_is_there (find_waiter c.args.ticket (state_of d).waiters) n)
 
 pub verdict_in-requires-clause-store : goal.verdict_in-requires-clause-store
 verdict_in-requires-clause-store c =
     let n = subst (λ (d : DeskView). c.args.frozen.now ≡ plains (state_of d).store) (sym c.self.view_is) c.requires.store in
-    rw c.self.invariant.at.stands.store_is n
+    rw c.self.invariant.0.at.stands.store_is n
 
 pub returns-clause-verdict : goal.returns-clause-verdict
 returns-clause-verdict c =
     let d : DeskView = record { table = c.self.inside.table; checkpoint = c.self.inside.checkpoint; limit = c.self.inside.limit; history = c.self.inside.history.items; pending = c.self.inside.machine.pending } in
     subst (λ (d : DeskView). IfOk c.verdict_in.result (λ v. IsVerdictUnder (state_of d) c.args.ticket v c.verdict_in.new.scratch)) c.self.view_is
-    (if_told (state_of d) c.self.inside.machine c.args.ticket c.verdict_in.new.scratch c.verdict_in.result c.self.invariant.at c.verdict_in.ensures)
+    (if_told (state_of d) c.self.inside.machine c.args.ticket c.verdict_in.new.scratch c.verdict_in.result c.self.invariant.0.at c.verdict_in.ensures)

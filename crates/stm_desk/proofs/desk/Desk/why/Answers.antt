@@ -17,21 +17,21 @@ use Rattle.stm_desk.proofs.desk.Desk.why.Goals as goal
 pub returns-in_default-clause-reason : goal.returns-in_default-clause-reason
 returns-in_default-clause-reason c =
     let d : DeskView = record { table = c.self.inside.table; checkpoint = c.self.inside.checkpoint; limit = c.self.inside.limit; history = c.self.inside.history.items; pending = c.self.inside.machine.pending } in
-    let k = c.self.invariant in
+    let k = c.self.invariant.0 in
     let none : None ≡ reason_of d c.args.ticket = no_reason d c.args.ticket (no_waiter d c.args.ticket (c.in_default.ensures (state_of d) k.at)) in
     subst (λ (x : DeskView). None ≡ reason_of x c.args.ticket) c.self.view_is none
 
 pub returns-in_default-reads-clause-reason : goal.returns-in_default-reads-clause-reason
 returns-in_default-reads-clause-reason c =
     let d : DeskView = record { table = c.self.inside.table; checkpoint = c.self.inside.checkpoint; limit = c.self.inside.limit; history = c.self.inside.history.items; pending = c.self.inside.machine.pending } in
-    let k = c.self.invariant in
+    let k = c.self.invariant.0 in
     subst (λ (x : DeskView). Some NotEvaluated ≡ reason_of x c.args.ticket) c.self.view_is
     (unread d c.args.ticket (shown c.in-Some.status) (c.in-Some.ensures (state_of d) k.at) (c.in_default-reads.ensures.then (state_of d) k.at))
 
 pub returns-in-New-clause-reason : goal.returns-in-New-clause-reason
 returns-in-New-clause-reason c =
     let d : DeskView = record { table = c.self.inside.table; checkpoint = c.self.inside.checkpoint; limit = c.self.inside.limit; history = c.self.inside.history.items; pending = c.self.inside.machine.pending } in
-    let k = c.self.invariant in
+    let k = c.self.invariant.0 in
     subst (λ (x : DeskView). Some NotEvaluated ≡ reason_of x c.args.ticket) c.self.view_is
     (stands_new d c.args.ticket (ap (λ (s : Status). Some (shown s)) (sym c.in-New.is) ∙ c.in-Some.ensures (state_of d) k.at))
 
@@ -39,12 +39,12 @@ pub stale_reason-requires : goal.stale_reason-requires
 stale_reason-requires c =
     let history = c.self.inside.history.items in
     let start = start_of c.self.inside.table c.self.inside.checkpoint in
-    subst EachIsWritable (sym c.deref.ensures.value) (each_is_writable start history (typed_history _ _ _ _ _ c.self.invariant c.len-variables.ensures.typed))
+    subst EachIsWritable (sym c.deref.ensures.value) (each_is_writable start history (typed_history _ _ _ _ _ c.self.invariant.0 c.len-variables.ensures.typed))
 
 pub returns-in-Stale-clause-reason : goal.returns-in-Stale-clause-reason
 returns-in-Stale-clause-reason c =
     let d : DeskView = record { table = c.self.inside.table; checkpoint = c.self.inside.checkpoint; limit = c.self.inside.limit; history = c.self.inside.history.items; pending = c.self.inside.machine.pending } in
-    let k = c.self.invariant in
+    let k = c.self.invariant.0 in
     let reads = c.in-Some-reads.reads.now in
     let p : IsStaleReason d c.args.ticket reads =
     stands_stale d c.args.ticket (Some c.in-Stale.field-0.now) reads k.start (typed_history _ _ _ _ _ k c.len-variables.ensures.typed)
@@ -61,7 +61,7 @@ returns-in-Stale-clause-reason c =
 pub returns-in-Current-clause-reason : goal.returns-in-Current-clause-reason
 returns-in-Current-clause-reason c =
     let d : DeskView = record { table = c.self.inside.table; checkpoint = c.self.inside.checkpoint; limit = c.self.inside.limit; history = c.self.inside.history.items; pending = c.self.inside.machine.pending } in
-    let k = c.self.invariant in
+    let k = c.self.invariant.0 in
     let reads = c.in-Some-reads.reads.now in
     let verdict = c.in-Current.verdict.now in
     ap Some c.current_reason.ensures
@@ -73,34 +73,34 @@ returns-in-Current-clause-reason c =
 pub returns-in_default-clause-waits : goal.returns-in_default-clause-waits
 returns-in_default-clause-waits c =
     let d : DeskView = record { table = c.self.inside.table; checkpoint = c.self.inside.checkpoint; limit = c.self.inside.limit; history = c.self.inside.history.items; pending = c.self.inside.machine.pending } in
-    let k = c.self.invariant in
+    let k = c.self.invariant.0 in
     subst (λ (x : DeskView). is_some (reason_of x c.args.ticket) ≡ is_some (find_waiter c.args.ticket (state_of x).waiters)) c.self.view_is
     (has_reason d c.args.ticket k.start (typed_history _ _ _ _ _ k c.len-variables.ensures.typed))
 
 pub returns-in_default-reads-clause-waits : goal.returns-in_default-reads-clause-waits
 returns-in_default-reads-clause-waits c =
     let d : DeskView = record { table = c.self.inside.table; checkpoint = c.self.inside.checkpoint; limit = c.self.inside.limit; history = c.self.inside.history.items; pending = c.self.inside.machine.pending } in
-    let k = c.self.invariant in
+    let k = c.self.invariant.0 in
     subst (λ (x : DeskView). is_some (reason_of x c.args.ticket) ≡ is_some (find_waiter c.args.ticket (state_of x).waiters)) c.self.view_is
     (has_reason d c.args.ticket k.start (typed_history _ _ _ _ _ k c.len-variables.ensures.typed))
 
 pub returns-in-New-clause-waits : goal.returns-in-New-clause-waits
 returns-in-New-clause-waits c =
     let d : DeskView = record { table = c.self.inside.table; checkpoint = c.self.inside.checkpoint; limit = c.self.inside.limit; history = c.self.inside.history.items; pending = c.self.inside.machine.pending } in
-    let k = c.self.invariant in
+    let k = c.self.invariant.0 in
     subst (λ (x : DeskView). is_some (reason_of x c.args.ticket) ≡ is_some (find_waiter c.args.ticket (state_of x).waiters)) c.self.view_is
     (has_reason d c.args.ticket k.start (typed_history _ _ _ _ _ k c.len-variables.ensures.typed))
 
 pub returns-in-Stale-clause-waits : goal.returns-in-Stale-clause-waits
 returns-in-Stale-clause-waits c =
     let d : DeskView = record { table = c.self.inside.table; checkpoint = c.self.inside.checkpoint; limit = c.self.inside.limit; history = c.self.inside.history.items; pending = c.self.inside.machine.pending } in
-    let k = c.self.invariant in
+    let k = c.self.invariant.0 in
     subst (λ (x : DeskView). is_some (reason_of x c.args.ticket) ≡ is_some (find_waiter c.args.ticket (state_of x).waiters)) c.self.view_is
     (has_reason d c.args.ticket k.start (typed_history _ _ _ _ _ k c.len-variables.ensures.typed))
 
 pub returns-in-Current-clause-waits : goal.returns-in-Current-clause-waits
 returns-in-Current-clause-waits c =
     let d : DeskView = record { table = c.self.inside.table; checkpoint = c.self.inside.checkpoint; limit = c.self.inside.limit; history = c.self.inside.history.items; pending = c.self.inside.machine.pending } in
-    let k = c.self.invariant in
+    let k = c.self.invariant.0 in
     subst (λ (x : DeskView). is_some (reason_of x c.args.ticket) ≡ is_some (find_waiter c.args.ticket (state_of x).waiters)) c.self.view_is
     (has_reason d c.args.ticket k.start (typed_history _ _ _ _ _ k c.len-variables.ensures.typed))

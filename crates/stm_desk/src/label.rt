@@ -1,0 +1,76 @@
+//! A label of a waiting block.
+
+ghost use Rattle.std.specs.Prelude.{◌≡◌, ◌<◌, true, false, OnOk, OnErr};
+ghost use Rattle.stm_terms.specs.UnlessNoMemory.{RefusedAs};
+ghost use Rattle.stm_events.specs.Labels.{is_label, label_of};
+ghost use Rattle.stm_events.specs.SlowDesk.{max_clients};
+ghost use Rattle.stm_events.specs.declared.event.What.TheVariants.{Labelled};
+ghost use Rattle.stm_desk.specs.DeskView.{labels_of, is_full, with_event};
+ghost use Rattle.stm_desk.specs.Limit.{limited_label};
+ghost use Rattle.stm_desk.specs.Refusals.{label_refusal};
+
+use crate::declare::shared_name;
+use crate::desk::Desk;
+use stm_events::{Event, LabelError, What};
+
+/// The desk's answer by the machine's, which knows no limit of events.
+fn limit_label(full: bool, answer: Result<(), LabelError>) -> Result<(), LabelError>
+    ensures { result ≡ limited_label full answer }
+{
+    if !full {
+        return answer;
+    }
+    match answer {
+        Ok(()) | Err(LabelError::HistoryFull | LabelError::NoMemory) => {
+            Err(LabelError::HistoryFull)
+        }
+        Err(LabelError::NoTicket) => Err(LabelError::NoTicket),
+    }
+}
+
+impl Desk {
+    /// Why the block can't get a label. The caller knows that the text is one.
+    fn may_label(&self, ticket: u32) -> Result<(), LabelError>
+        ensures refused { RefusedAs LabelError.NoMemory (label_refusal self.now ticket) result }
+        ensures room { OnOk result (is_full self.now ≡ false) }
+    {
+        limit_label(self.is_full(), self.machine.may_label(ticket))
+    }
+
+    /// The block gets a label, in place of the one that it had; an empty one takes it away. The caller's number is below 128, and it
+    /// knows that the text is a label.
+    pub fn label(&mut self, client: u32, ticket: u32, label: &str) -> Result<(), LabelError>
+        requires client { client < max_clients }
+        requires label { is_label label.now ≡ true }
+        // Accepted: one more event, which gives this label to the block.
+        ensures accepted { OnOk result (self.new ≡ with_event self.old client (Labelled ticket label.now)) }
+        // Refused for the first reason that holds, or for lack of memory if none does.
+        ensures refused { RefusedAs LabelError.NoMemory (label_refusal self.old ticket) result }
+        ensures unchanged { OnErr result (self.new ≡ self.old) }
+    {
+        match self.may_label(ticket) {
+            Ok(()) => {}
+            Err(refusal) => return Err(refusal),
+        }
+        let told = shared_name(*self.history.allocator(), label)?;
+        let kept = told.share()?;
+        self.history.reserve(1)?;
+        self.labels.set(ticket, kept)?;
+        self.machine.label(ticket, label);
+        self.history.push_reserved(Event {
+            client,
+            what: What::Labelled {
+                ticket,
+                label: told,
+            },
+        });
+        Ok(())
+    }
+
+    /// The label of the block under a ticket; the empty text if it has none, or if no block waits there.
+    pub fn label_of(&self, ticket: u32) -> &str
+        ensures { result.now ≡ label_of ticket (labels_of self.now) }
+    {
+        self.labels.label_of(ticket)
+    }
+}
