@@ -1,9 +1,10 @@
 //! A history that begins from where the desk is.
 
-ghost use Rattle.std.specs.Prelude.{◌≡◌, ◌<◌, ◌≤◌, ◌↔◌, length, Some, option_map, IfOk, OnOk, OnErr, IsErrOf};
+ghost use Rattle.std.specs.Prelude.{◌≡◌, ℕ, ◌<◌, ◌≤◌, ◌↔◌, length, Some, option_map, IfOk, OnOk, OnErr, IsErrOf};
+ghost use Rattle.stm_events.specs.Labels.{label_of};
 ghost use Rattle.stm_events.specs.States.{observed};
 ghost use Rattle.stm_machine.specs.Checkpoints.{MayStart, max_next};
-ghost use Rattle.stm_desk.specs.DeskView.{state_of, checkpoint_now, checkpointed};
+ghost use Rattle.stm_desk.specs.DeskView.{state_of, labels_of, checkpoint_now, checkpointed};
 
 use crate::desk::Desk;
 use stm_machine::{Checkpoint, CheckpointError};
@@ -39,6 +40,8 @@ impl Desk {
         ensures taken { self.new ≡ checkpointed self.old }
         // The same is observed of the state before and of the state after, so no later event or question tells them apart.
         ensures unseen { observed (state_of self.new) ≡ observed (state_of self.old) }
+        // Each block has the label that it had.
+        ensures labels { (t : ℕ) → label_of t (labels_of self.new) ≡ label_of t (labels_of self.old) }
     {
         // The variables are known to be well typed by this.
         let _variables = self.table.len();
@@ -57,6 +60,7 @@ impl Desk {
         ensures events { IfOk result (λ n. n ≡ length self.old.history) }
         ensures taken { OnOk result (self.new ≡ checkpointed self.old) }
         ensures unseen { OnOk result (observed (state_of self.new) ≡ observed (state_of self.old)) }
+        ensures labels { OnOk result ((t : ℕ) → label_of t (labels_of self.new) ≡ label_of t (labels_of self.old)) }
         // Refused if and only if tickets could run out in a history from here, or for lack of memory.
         ensures room { OnOk result ((state_of self.old).next ≤ max_next) }
         ensures full { IsErrOf result CheckpointError.TicketsFull → max_next < (state_of self.old).next }

@@ -1,13 +1,13 @@
 use Rattle.std.proofs.Common.{◌≡◌, List, Some, refl, sym, ap, subst, ◌∙◌}
 use Rattle.stm_events.specs.declared.event.Event.{Event}
-use Rattle.stm_events.specs.Labels.{labels_from}
+use Rattle.stm_events.specs.Labels.{label_of, labels_from}
 use Rattle.stm_events.specs.SlowDesk.{state_from}
 use Rattle.stm_events.specs.States.{observed}
-use Rattle.stm_machine.specs.Checkpoints.{checkpoint_of, checkpoint_state, first_labels, with_labels, start_of}
-use Rattle.stm_desk.specs.DeskView.{DeskView, state_of, checkpoint_now}
+use Rattle.stm_machine.specs.Checkpoints.{CheckpointView, checkpoint_of, checkpoint_state, first_labels, with_labels, start_of}
+use Rattle.stm_desk.specs.DeskView.{DeskView, state_of, labels_of, checkpoint_now}
 use Rattle.stm_desk.specs.Kept.{DeskInvariant, HasLabels}
 use Rattle.stm_desk.proofs.Checkpointed.{unseen, checkpoint_kept}
-use Rattle.stm_desk.proofs.CheckpointLabels.{labels_wait, labels_kept}
+use Rattle.stm_desk.proofs.CheckpointLabels.{labels_wait, labels_again, labels_kept}
 use Rattle.stm_desk.proofs.desk.Desk.begin_from.Goals as goal
 
 pub invariant_of-self : goal.invariant_of-self
@@ -32,3 +32,15 @@ returns-clause-unseen c =
     ap (λ (es : List Event). observed (state_from (checkpoint_state c.args.checkpoint) es)) c.new.ensures.items
     ∙ unseen _ _ _ _ _ k c.len-variables.ensures.typed labels c.args.checkpoint is c.next-next.ensures.checkpoint
     ∙ ap (λ (x : DeskView). observed (state_of x)) c.self.view_is
+
+pub returns-clause-labels : goal.returns-clause-labels
+returns-clause-labels c = λ t.
+    let k = c.self.invariant.0 in
+    let d = c.self.inside in
+    let s = state_from (start_of d.table d.checkpoint) d.history.items in
+    let labels = labels_from (first_labels d.checkpoint) d.history.items in
+    let is : c.args.checkpoint ≡ with_labels labels (checkpoint_of s) = c.requires ∙ sym (ap checkpoint_now c.self.view_is) in
+    ap (λ (es : List Event). label_of t (labels_from (first_labels (Some c.args.checkpoint)) es)) c.new.ensures.items
+    ∙ ap (λ (x : CheckpointView). label_of t (first_labels (Some x))) is
+    ∙ labels_again s labels t (labels_wait d.table d.checkpoint d.history.items k.start k.legal.each)
+    ∙ ap (λ (x : DeskView). label_of t (labels_of x)) c.self.view_is
