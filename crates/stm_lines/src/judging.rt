@@ -1,6 +1,6 @@
 //! The judgement of a line before a command sees it.
 
-ghost use Rattle.std.specs.Prelude.{◌≡◌, ◌≤◌, drop, length};
+ghost use Rattle.std.specs.Prelude.{◌≡◌, ◌≤◌, drop, length, take};
 ghost use Rattle.stm_lines.specs.LineClass.{blanks_len, command_len, skip_blanks, class_of_words, has_high_byte, line_class};
 ghost use Rattle.stm_lines.specs.Judged.{line_class_of};
 
@@ -65,13 +65,22 @@ fn has_high_byte(line: &[u8]) -> bool
     !line.is_ascii()
 }
 
+/// The first word of a text, up to the next blank or the end, and the rest after the blanks that follow it.
+pub fn first_word(text: &[u8]) -> (&[u8], &[u8])
+    ensures word { result.0.now ≡ take (command_len text.now) text.now }
+    ensures rest { result.1.now ≡ skip_blanks (drop (command_len text.now) text.now) }
+{
+    let len = command_len(text);
+    (&text[..len], skip_blanks(after(text, len)))
+}
+
 /// The command word of a text and its argument.
 #[tactic(auto, unfolding(crate::specs::LineClass::class_of_words))]
 fn words_of(text: &[u8]) -> Judgement<'_>
     ensures { line_class_of result ≡ class_of_words text.now }
 {
-    let len = command_len(text);
-    Judgement::Words(&text[..len], skip_blanks(after(text, len)))
+    let (word, argument) = first_word(text);
+    Judgement::Words(word, argument)
 }
 
 /// The first judgement that holds.
