@@ -13,7 +13,7 @@ use Rattle.stm_events.specs.declared.errors.DeliverError.{DeliverError}
 use Rattle.stm_events.specs.declared.errors.DeliverError.TheVariants as deliver
 use Rattle.stm_events.specs.declared.event.Event.{Event}
 use Rattle.stm_events.specs.declared.event.What.{What}
-use Rattle.stm_events.specs.declared.event.What.TheVariants.{Submitted, Installed, Finished, Cancelled, Declared as DeclaredLate}
+use Rattle.stm_events.specs.declared.event.What.TheVariants.{Submitted, Installed, Finished, Cancelled, Declared as DeclaredLate, Labelled}
 use Rattle.stm_events.specs.Refusals.{differing, install_first, DeliveryRefusedAt, DeliveryRefusedAs}
 use Rattle.stm_events.specs.SlowDesk.{Waiter, Slow, under, verdict_on, find_waiter, without_waiter, stale_after, waking, MayInstall, MayFinish, Allows, max_events, max_clients, after}
 use Rattle.stm_events.specs.States.{IsLegalFrom}
@@ -150,6 +150,7 @@ KeepsStore (Installed t v) = Unit {0}
 KeepsStore (Finished t v n stale) = ⊥
 KeepsStore (Cancelled t) = Unit {0}
 KeepsStore (DeclaredLate name kind value) = ⊥
+KeepsStore (Labelled t label) = Unit {0}
 
 after_keeps : (s : Slow) (what : What) → KeepsStore what → (after s what).store ≡ s.store
 after_keeps s (Submitted t b) k = refl
@@ -157,6 +158,7 @@ after_keeps s (Installed t v) k = refl
 after_keeps s (Finished t v n stale) k = absurd k
 after_keeps s (Cancelled t) k = refl
 after_keeps s (DeclaredLate name kind value) k = absurd k
+after_keeps s (Labelled t label) k = refl
 
 store_kept : (s : Slow) (what : What) (m n : Parts) → KeepsStore what → IsAt m s → MovesBy what m n → n.store ≡ m.store
 store_kept s what m n k h moved = (moved s h).1.stands.store_is ∙ after_keeps s what k ∙ sym h.stands.store_is

@@ -2,6 +2,7 @@
 use Rattle.std.proofs.Common.{◌≡◌, ℕ, ◌+◌, ◌≤◌, Bool, true, false, not, List, [], ◌∷◌, length, Option, Some, None, refl, ap, ◌∙◌, arith}
 use Rattle.std.specs.Prelude.{nat_eq, nat_le, nat_lt, is_some, IsSomeAnd}
 use Rattle.std.proofs.lemmas.Bool.Decides.{nat_tests}
+use Rattle.stm_events.specs.Labels.{is_label}
 use Rattle.stm_terms.specs.declared.kinds.Ty.{Ty}
 use Rattle.stm_terms.specs.declared.kinds.Base.{Base}
 use Rattle.stm_terms.specs.declared.kinds.Base.TheVariants as base
@@ -13,9 +14,9 @@ use Rattle.stm_store.specs.Cells.{plains, Covers, kinds_of, made_by}
 use Rattle.stm_store.specs.Naming.{may_hold_known, number_named}
 use Rattle.stm_store.specs.Tables.{is_type}
 use Rattle.stm_check.specs.TypedBlock.{Block}
-use Rattle.stm_events.specs.declared.event.What.TheVariants.{Submitted, Finished, Cancelled, Declared as DeclaredLate}
+use Rattle.stm_events.specs.declared.event.What.TheVariants.{Submitted, Finished, Cancelled, Declared as DeclaredLate, Labelled}
 use Rattle.stm_events.specs.SlowDesk.{Since, Waiter, Slow, is_new_since, current_since, MayFinish, find_waiter, Allows, max_waiting, max_cells}
-use Rattle.stm_events.specs.Refusals.{declare_first, late_declare_refused, missing, submit_refused, cancel_first, cancel_refused, overflows, finish_first, finish_refused}
+use Rattle.stm_events.specs.Refusals.{declare_first, late_declare_refused, missing, submit_refused, cancel_first, cancel_refused, label_first, label_refused, overflows, finish_first, finish_refused}
 
 -- ---- a block that is submitted
 same_base_itself : (b : Base) → same_base b b ≡ true
@@ -48,6 +49,14 @@ cancel_by (Some w) a = refl
 
 pub cancel_not_refused : (s : Slow) (t : ℕ) → Allows s (Cancelled t) → cancel_refused s false t ≡ None
 cancel_not_refused s t a = cancel_by (find_waiter t s.waiters) a
+
+-- ---- a block that gets a label
+label_by : (label : List ℕ) (o : Option Waiter) → IsSomeAnd o (λ w. is_label label ≡ true) → label_first o false ≡ None
+label_by label None a = absurd a
+label_by label (Some w) a = refl
+
+pub label_not_refused : (s : Slow) (t : ℕ) (label : List ℕ) → Allows s (Labelled t label) → label_refused s false t ≡ None
+label_not_refused s t label a = label_by label (find_waiter t s.waiters) a
 
 -- ---- a variable that is declared
 declare_by : (taken holds room : Bool) → taken ≡ false → holds ≡ true → room ≡ true → declare_first taken holds false room ≡ None

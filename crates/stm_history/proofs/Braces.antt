@@ -3,7 +3,7 @@ use Rattle.std.proofs.Common.{ℕ, refl}
 use Rattle.stm_store.specs.Tables.{Declared}
 use Rattle.stm_events.specs.declared.event.Event.{Event}
 use Rattle.stm_events.specs.declared.event.What.{What}
-use Rattle.stm_events.specs.declared.event.What.TheVariants.{Submitted, Installed, Finished, Cancelled, Declared as DeclaredLate}
+use Rattle.stm_events.specs.declared.event.What.TheVariants.{Submitted, Installed, Finished, Cancelled, Declared as DeclaredLate, Labelled}
 use Rattle.serde_json.specs.Written.{compact_text}
 use Rattle.stm_event_lines.proofs.Checkpoints.{cell_brace, cell_one_line, checkpoint_header_brace, checkpoint_header_one_line, waiting_brace, waiting_one_line}
 use Rattle.stm_history.specs.FileLaws.{CheckpointsAreLines, CheckpointsBeginWithBraces, LinesBeginWithBraces}
@@ -16,6 +16,7 @@ what_brace client (Installed ticket verdict) = (_, refl)
 what_brace client (Finished ticket verdict first_new stale) = (_, refl)
 what_brace client (Cancelled ticket) = (_, refl)
 what_brace client (DeclaredLate name kind value) = (_, refl)
+what_brace client (Labelled ticket label) = (_, refl)
 
 pub event_brace : (e : Event) → BeginsWithBrace (event_line e)
 unfolding event_line

@@ -2,6 +2,9 @@
 use Rattle.std.proofs.Common.{◌≡◌, ◌≢◌, ℕ, ◌<◌, Bool, true, false, not, cond, List, Option, Some, None, refl, sym, ap, subst, ◌∙◌, arith, length}
 use Rattle.std.specs.Prelude.{IfOk, IsSomeAnd, if◌then◌else◌, is_some, nat_le, nat_lt, option_map, IsTrue, Result, Ok, Err}
 use Rattle.std.proofs.lemmas.Bool.Decides.{nat_tests}
+use Rattle.stm_events.specs.Labels.{is_label}
+use Rattle.stm_events.specs.declared.errors.LabelError.{LabelError}
+use Rattle.stm_events.specs.declared.errors.LabelError.TheVariants as label
 use Rattle.stm_terms.specs.declared.kinds.Ty.{Ty}
 use Rattle.stm_terms.specs.declared.values.Value.{Value}
 use Rattle.stm_terms.specs.declared.verdicts.Verdict.{Verdict}
@@ -23,8 +26,8 @@ use Rattle.stm_events.specs.declared.errors.LateDeclareError.TheVariants as decl
 use Rattle.stm_events.specs.declared.errors.SubmitError.{SubmitError}
 use Rattle.stm_events.specs.declared.errors.SubmitError.TheVariants as submit
 use Rattle.stm_events.specs.declared.event.Event.{Event}
-use Rattle.stm_events.specs.declared.event.What.TheVariants.{Submitted, Installed, Cancelled, Declared as DeclaredLate}
-use Rattle.stm_events.specs.Refusals.{declare_first, late_declare_refused, missing, submit_first, submit_refused, cancel_first, cancel_refused, finish_first, finish_refused, differing, overtaken_first, install_first, DeliveryRefusedAt, DeliveryRefusedAs, blocks_there, overflows}
+use Rattle.stm_events.specs.declared.event.What.TheVariants.{Submitted, Installed, Cancelled, Declared as DeclaredLate, Labelled}
+use Rattle.stm_events.specs.Refusals.{declare_first, late_declare_refused, missing, submit_first, submit_refused, cancel_first, cancel_refused, label_first, label_refused, finish_first, finish_refused, differing, overtaken_first, install_first, DeliveryRefusedAt, DeliveryRefusedAs, blocks_there, overflows}
 use Rattle.stm_events.specs.SlowDesk.{Waiter, Slow, Allows, under, verdict_on, is_new, is_current, find_waiter, max_cells, max_clients, max_events, max_waiting}
 use Rattle.stm_events.specs.States.{IsLegalFrom}
 use Rattle.stm_machine.specs.JobsHandedOut.{IsPresent, block_at}
@@ -96,6 +99,30 @@ cancel_always s full t e h = cancel_some (find_waiter t s.waiters) full e h
 
 pub cancel_allowed : (s : Slow) (t : ℕ) → cancel_refused s false t ≡ None → Allows s (Cancelled t)
 cancel_allowed s t h = waits_by (find_waiter t s.waiters) h
+
+-- a label
+label_none : (o : Option Waiter) → label_first o false ≡ None → label_first o true ≡ Some label.HistoryFull
+label_none None h = cc
+label_none (Some w) h = refl
+
+label_some : (o : Option Waiter) (full : Bool) (e : LabelError) → label_first o false ≡ Some e → label_first o full ≡ Some e
+label_some None full e h = h
+label_some (Some w) full e h = cc
+
+label_waits : (text : List ℕ) (o : Option Waiter) → label_first o false ≡ None → is_label text ≡ true → IsSomeAnd o (λ w. is_label text ≡ true)
+label_waits text None h e = cc
+label_waits text (Some w) h e = e
+
+pub label_when_full : (s : Slow) (t : ℕ) → label_refused s false t ≡ None → label_refused s true t ≡ Some label.HistoryFull
+label_when_full s t h = label_none (find_waiter t s.waiters) h
+
+pub label_always : (s : Slow) (full : Bool) (t : ℕ) (e : LabelError) → label_refused s false t ≡ Some e → label_refused s full t ≡ Some e
+label_always s full t e h = label_some (find_waiter t s.waiters) full e h
+
+pub label_due : (s : Slow) (full : Bool) (t : ℕ) (text given : List ℕ) → full ≡ false → given ≡ text → is_label text ≡ true → label_refused s false t ≡ None
+    → IsDueOn s full (Labelled t text) (Due (Labelled t given))
+label_due s full t text given f g e h =
+    (f, (refl, sym g), subst (λ (x : List ℕ). Allows s (Labelled t x)) (sym g) (label_waits text (find_waiter t s.waiters) h e))
 
 -- a declaration
 declare_full_by : (taken holds room : Bool) → declare_first taken holds false room ≡ None → declare_first taken holds true room ≡ Some declare.HistoryFull

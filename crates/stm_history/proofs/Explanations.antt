@@ -1,5 +1,5 @@
 -- What is reported of a line that is not accepted.
-use Rattle.std.proofs.Common.{◌≡◌, ℕ, ◌<◌, List, [], ◌∷◌, ◌++◌, length, Option, Some, None, refl, sym, ap, ◌∙◌, subst}
+use Rattle.std.proofs.Common.{◌≡◌, ℕ, ◌<◌, true, List, [], ◌∷◌, ◌++◌, length, Option, Some, None, refl, sym, ap, ◌∙◌, subst}
 use Rattle.std.specs.Prelude.{IfOk, Result, Ok, Err}
 use Rattle.stm_store.specs.declared.cell.Cell.{Cell}
 use Rattle.stm_store.specs.Naming.{Named}
@@ -7,7 +7,7 @@ use Rattle.stm_store.specs.Tables.{Declared, declare_refusal}
 use Rattle.stm_check.specs.TypedBlock.{Block}
 use Rattle.stm_events.specs.declared.event.Event.{Event}
 use Rattle.stm_events.specs.declared.event.What.{What}
-use Rattle.stm_events.specs.declared.event.What.TheVariants.{Submitted, Installed, Finished, Cancelled, Declared as DeclaredLate}
+use Rattle.stm_events.specs.declared.event.What.TheVariants.{Submitted, Installed, Finished, Cancelled, Declared as DeclaredLate, Labelled}
 use Rattle.stm_events.specs.Delivered.{Delivered}
 use Rattle.stm_events.specs.SlowDesk.{max_clients}
 use Rattle.stm_machine.specs.Checkpoints.{CheckpointView, MayAdd, checkpoint_block}
@@ -16,7 +16,7 @@ use Rattle.stm_history.specs.declared.files.check.Stage.TheVariants.{Running}
 use Rattle.stm_history.specs.declared.files.replayer.Replayer.{Replayer}
 use Rattle.stm_history.specs.Following.{Follows}
 use Rattle.stm_history.specs.Stages.{IsStage}
-use Rattle.stm_history.specs.Starts.{Start, delivery_of_block, names_after}
+use Rattle.stm_history.specs.Starts.{Start, delivery_of_block, is_unlabelled, names_after}
 use Rattle.stm_history.specs.declared.files.expecting.Expectation.{Expectation}
 use Rattle.stm_history.specs.declared.files.expecting.Expectation.TheVariants.{Due}
 use Rattle.stm_history.specs.declared.files.explanation.Explanation.{Explanation}
@@ -26,7 +26,7 @@ use Rattle.stm_history.specs.Expecting.{HasCheckedBlock, IsDueAfter, IsLineOf, I
 use Rattle.stm_history.specs.Explanation.{Explains, ExplainsEvent, ExplainsHead, IsCallDue, IsReadAs, IsSameCall}
 use Rattle.stm_event_lines.specs.Fits.{FitsNames, FitsFormat, FitsVariable, WhatFitsNames}
 use Rattle.stm_history.specs.Judgement.{IsShort}
-use Rattle.stm_event_lines.specs.CheckpointLines.{FitsWaiting, cell_line, waiting_line}
+use Rattle.stm_event_lines.specs.CheckpointLines.{FitsWaiting, cell_line, checkpoint_format, waiting_line}
 use Rattle.stm_event_lines.specs.Lines.{event_line, variable_line}
 use Rattle.stm_event_lines.specs.WholeBlocks.{checked_block}
 
@@ -56,18 +56,19 @@ cell_head (Ok x) format vars names cells name c may h = λ next waiting.
 cell_head (Err e) format vars names cells name c may h = tt
 
 -- what was delivered to a block is what its checkpoint has
-delivery_kept : (t : ℕ) (b : Block) (d : Option Delivered) → delivery_of_block (checkpoint_block t b d) ≡ d
-delivery_kept t b None = refl
-delivery_kept t b (Some d) = refl
+delivery_kept : (t : ℕ) (b : Block) (label : List ℕ) (d : Option Delivered) → delivery_of_block (checkpoint_block t b d label) ≡ d
+delivery_kept t b label None = refl
+delivery_kept t b label (Some d) = refl
 
 -- the line of a waiting block that may be added
-pub block_head : (format waiting : ℕ) (c : CheckpointView) (t : ℕ) (b : Block) (d : Option Delivered) (x : Explanation) → FitsWaiting c.names t b d → MayAdd c (checkpoint_block t b d) → IsShortOr (waiting_line t b.text d) x
+pub block_head : (format waiting : ℕ) (c : CheckpointView) (t : ℕ) (b : Block) (label : List ℕ) (d : Option Delivered) (x : Explanation) → FitsWaiting c.names t b label d → MayAdd c (checkpoint_block t b d label)
+    → (format ≡ checkpoint_format → is_unlabelled label ≡ true) → IsShortOr (waiting_line t b.text label d) x
     → ExplainsHead (at_blocks format waiting c) x
-block_head format waiting c t b d x fits may h =
-    let block = checkpoint_block t b d in
-    let same = delivery_kept t b d in
-    head_line (at_blocks format waiting c) (waiting_line t b.text d) x
-    (with_blocks format waiting (record c { blocks = c.blocks ++ block ∷ [] }), (block, ap (waiting_line t b.text) same, (subst (FitsWaiting c.names t b) (sym same) fits, may), refl)) h
+block_head format waiting c t b label d x fits may free h =
+    let block = checkpoint_block t b d label in
+    let same = delivery_kept t b label d in
+    head_line (at_blocks format waiting c) (waiting_line t b.text label d) x
+    (with_blocks format waiting (record c { blocks = c.blocks ++ block ∷ [] }), (block, ap (waiting_line t b.text label) same, (subst (FitsWaiting c.names t b label) (sym same) fits, may, free), refl)) h
 
 -- what is reported at a progress, whatever it is called
 pub explained_at : {E : Type 0} (o : Result Explanation E) (P : Explanation → Type 0) (q : CheckerState) (line : List ℕ) → IfOk o P → ((x : Explanation) → P x → Explains q line x) → IfOk o (λ x. (p : CheckerState) → p ≡ q → Explains p line x)
@@ -81,26 +82,37 @@ checked_same names (Submitted t b) (Installed u w) f e = tt
 checked_same names (Submitted t b) (Finished u w m k) f e = tt
 checked_same names (Submitted t b) (Cancelled u) f e = tt
 checked_same names (Submitted t b) (DeclaredLate other type first) f e = tt
+checked_same names (Submitted t b) (Labelled u other) f e = tt
 checked_same names (Installed t v) (Submitted u c) f e = absurd e
 checked_same names (Installed t v) (Installed u w) f e = tt
 checked_same names (Installed t v) (Finished u w m k) f e = tt
 checked_same names (Installed t v) (Cancelled u) f e = tt
 checked_same names (Installed t v) (DeclaredLate other type first) f e = tt
+checked_same names (Installed t v) (Labelled u other) f e = tt
 checked_same names (Finished t v n stale) (Submitted u c) f e = absurd e
 checked_same names (Finished t v n stale) (Installed u w) f e = tt
 checked_same names (Finished t v n stale) (Finished u w m k) f e = tt
 checked_same names (Finished t v n stale) (Cancelled u) f e = tt
 checked_same names (Finished t v n stale) (DeclaredLate other type first) f e = tt
+checked_same names (Finished t v n stale) (Labelled u other) f e = tt
 checked_same names (Cancelled t) (Submitted u c) f e = absurd e
 checked_same names (Cancelled t) (Installed u w) f e = tt
 checked_same names (Cancelled t) (Finished u w m k) f e = tt
 checked_same names (Cancelled t) (Cancelled u) f e = tt
 checked_same names (Cancelled t) (DeclaredLate other type first) f e = tt
+checked_same names (Cancelled t) (Labelled u other) f e = tt
 checked_same names (DeclaredLate name kind value) (Submitted u c) f e = absurd e
 checked_same names (DeclaredLate name kind value) (Installed u w) f e = tt
 checked_same names (DeclaredLate name kind value) (Finished u w m k) f e = tt
 checked_same names (DeclaredLate name kind value) (Cancelled u) f e = tt
 checked_same names (DeclaredLate name kind value) (DeclaredLate other type first) f e = tt
+checked_same names (DeclaredLate name kind value) (Labelled u other) f e = tt
+checked_same names (Labelled t label) (Submitted u c) f e = absurd e
+checked_same names (Labelled t label) (Installed u w) f e = tt
+checked_same names (Labelled t label) (Finished u w m k) f e = tt
+checked_same names (Labelled t label) (Cancelled u) f e = tt
+checked_same names (Labelled t label) (DeclaredLate other type first) f e = tt
+checked_same names (Labelled t label) (Labelled u other) f e = tt
 
 pub explains_due : (start : Start) (history : List Event) (e : Event) (what : What) (x : Explanation) → IsCallDue start history e what → IsLineOf start.format (names_after start history) (event e.client what) x → ExplainsEvent start history e x
 explains_due start history e what (Expected text) d l = (what, d, l.0, l.1)

@@ -10,6 +10,7 @@ pub mod ExpectedLines
 pub mod Explanations
 pub mod FirstFault
 pub mod FirstLines
+pub mod HistoryLabels
 pub mod KeptIsTaken
 pub mod LineByLine
 pub mod OneLineMore

@@ -7,7 +7,7 @@ use Rattle.stm_store.specs.Naming.{Named}
 use Rattle.stm_store.specs.Tables.{Declared, opened}
 use Rattle.stm_events.specs.declared.event.Event.{Event}
 use Rattle.stm_events.specs.declared.event.What.{What}
-use Rattle.stm_events.specs.declared.event.What.TheVariants.{Submitted, Installed, Finished, Cancelled, Declared as DeclaredLate}
+use Rattle.stm_events.specs.declared.event.What.TheVariants.{Submitted, Installed, Finished, Cancelled, Declared as DeclaredLate, Labelled}
 use Rattle.stm_events.specs.Laws.{SubmitsWellTyped, SubmittedAreWellTyped}
 use Rattle.stm_event_lines.specs.Fits.{WhatFitsNames}
 use Rattle.stm_events.specs.SlowDesk.{Slow, after, state_from}
@@ -37,6 +37,7 @@ what_typed names (Installed ticket v) f = tt
 what_typed names (Finished ticket v first_new stale) f = tt
 what_typed names (Cancelled ticket) f = tt
 what_typed names (DeclaredLate name kind value) f = tt
+what_typed names (Labelled ticket label) f = tt
 
 -- blocks that are what their texts check to are well typed
 pub events_typed : (format : ℕ) (s : Slow) (events : List Event) → AreEvents format s events → SubmittedAreWellTyped events

@@ -17,7 +17,7 @@ use Rattle.stm_history.specs.declared.files.fault.HistoryFault.{HistoryFault}
 use Rattle.stm_history.specs.declared.files.fault.HistoryFault.TheVariants.{ReadFault, BadHeader, BadLine, NotLegal, NoMemory}
 use Rattle.stm_history.specs.HistoryText.{block_line, cells_text, checkpoint_text, head_text, history_text}
 use Rattle.stm_history.specs.Judgement.{IsShort, MayDeclare, AreVariables, AreEvents, FitCells, IsReadable, IsStart, NoEventNext, IsIllegalFrom, next_line}
-use Rattle.stm_history.specs.Starts.{Start, delivery_of_block, first_state, names_after}
+use Rattle.stm_history.specs.Starts.{Start, delivery_of_block, first_state, is_unlabelled, names_after}
 
 -- no byte is a line feed
 abbrev pub NoFeed : List ℕ → Type 0
@@ -83,9 +83,11 @@ pub record MayTakeCell (format vars : ℕ) (names : List Named) (cells : List Ce
   pub named : MayBeNamed format names (length cells) name c.kind
   pub store : length cells + 1 ≡ vars → IsStore (plains (cells ++ c ∷ []))
 
--- the waiting block may come next
-abbrev pub MayTakeBlock : CheckpointView → CheckpointBlock → Type 0
-MayTakeBlock c b = FitsWaiting c.names b.ticket b.waiting.block (delivery_of_block b) × MayAdd c b
+-- the waiting block may come next, in the format: in format 4 it has no label
+abbrev pub MayTakeBlock : ℕ → CheckpointView → CheckpointBlock → Type 0
+MayTakeBlock format c b =
+    FitsWaiting c.names b.ticket b.waiting.block b.label (delivery_of_block b) × MayAdd c b
+    × (format ≡ checkpoint_format → is_unlabelled b.label ≡ true)
 
 -- the first line is that of a table in a format
 abbrev pub LeadsToVariables : List ℕ → CheckerState → Type 0
@@ -107,7 +109,7 @@ LeadsTo (at_cells format next vars waiting names cells) line q =
     (name : Option (List ℕ)) × (c : Cell) × (cell_line name c ≡ line) × MayTakeCell format vars names cells name c
     × (q ≡ with_cells format next vars waiting (with_name_of names (length cells) name c.kind) (cells ++ c ∷ []))
 LeadsTo (at_blocks format waiting c) line q =
-    (b : CheckpointBlock) × (block_line b ≡ line) × MayTakeBlock c b
+    (b : CheckpointBlock) × (block_line b ≡ line) × MayTakeBlock format c b
     × (q ≡ with_blocks format waiting (record c { blocks = c.blocks ++ b ∷ [] }))
 LeadsTo (at_events start history) line q =
     (e : Event) × (event_line e ≡ line) × FitsNames (names_after start history) e × FitsFormat start.format e

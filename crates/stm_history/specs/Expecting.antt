@@ -4,7 +4,8 @@ use Rattle.stm_terms.specs.Names.{is_name_text}
 use Rattle.stm_store.specs.Naming.{Named}
 use Rattle.stm_events.specs.declared.event.Event.{Event}
 use Rattle.stm_events.specs.declared.event.What.{What}
-use Rattle.stm_events.specs.declared.event.What.TheVariants.{Submitted, Installed, Finished, Cancelled, Declared as DeclaredLate}
+use Rattle.stm_events.specs.declared.event.What.TheVariants.{Submitted, Installed, Finished, Cancelled, Declared as DeclaredLate, Labelled}
+use Rattle.stm_events.specs.Labels.{is_label}
 use Rattle.stm_events.specs.SlowDesk.{Slow, Allows}
 use Rattle.stm_history.specs.declared.files.expecting.Expectation.{Expectation}
 use Rattle.stm_history.specs.declared.files.expecting.Expectation.TheVariants.{Due, Refuses}
@@ -33,14 +34,16 @@ HasCheckedBlock names (Installed t v) = Unit {0}
 HasCheckedBlock names (Finished t v n stale) = Unit {0}
 HasCheckedBlock names (Cancelled t) = Unit {0}
 HasCheckedBlock names (DeclaredLate name kind value) = Unit {0}
+HasCheckedBlock names (Labelled t label) = Unit {0}
 
--- a variable that is declared late has a name of the language
+-- a variable that is declared late has a name of the language, and a label is one
 abbrev pub HasName : What → Type 0
 HasName (Submitted t b) = Unit {0}
 HasName (Installed t v) = Unit {0}
 HasName (Finished t v n stale) = Unit {0}
 HasName (Cancelled t) = Unit {0}
 HasName (DeclaredLate name kind value) = IsTrue (is_name_text name)
+HasName (Labelled t label) = IsTrue (is_label label)
 
 -- a line of these bytes is reported, or nothing if it is too long
 abbrev pub IsShortOr : List ℕ → Explanation → Type 0

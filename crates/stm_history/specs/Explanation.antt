@@ -7,13 +7,13 @@ use Rattle.stm_events.specs.declared.errors.DeliverError.{DeliverError}
 use Rattle.stm_events.specs.declared.errors.DeliverError.TheVariants.{Gone, Already, HistoryFull}
 use Rattle.stm_events.specs.declared.event.Event.{Event}
 use Rattle.stm_events.specs.declared.event.What.{What}
-use Rattle.stm_events.specs.declared.event.What.TheVariants.{Submitted, Installed, Finished, Cancelled, Declared as DeclaredLate}
-use Rattle.stm_events.specs.Refusals.{submit_refused, cancel_refused, finish_refused, late_declare_refused}
+use Rattle.stm_events.specs.declared.event.What.TheVariants.{Submitted, Installed, Finished, Cancelled, Declared as DeclaredLate, Labelled}
+use Rattle.stm_events.specs.Refusals.{submit_refused, cancel_refused, finish_refused, late_declare_refused, label_refused}
 use Rattle.stm_events.specs.SlowDesk.{Waiter, Slow, Allows, find_waiter, is_current, max_events, stale_after, verdict_on, waking, without_waiter}
 use Rattle.stm_events.specs.States.{IsLegalFrom}
 use Rattle.stm_machine.specs.Machine.{event}
 use Rattle.stm_history.specs.declared.files.explanation.CallRefusal.{CallRefusal}
-use Rattle.stm_history.specs.declared.files.explanation.CallRefusal.TheVariants.{Submission, Delivery, Finish, Cancellation, Declaration}
+use Rattle.stm_history.specs.declared.files.explanation.CallRefusal.TheVariants.{Submission, Delivery, Finish, Cancellation, Declaration, Labelling}
 use Rattle.stm_history.specs.declared.files.explanation.Explanation.{Explanation}
 use Rattle.stm_history.specs.declared.files.explanation.Explanation.TheVariants.{Expected, Refused, Unreadable}
 use Rattle.stm_history.specs.declared.files.fault.HistoryFault.{HistoryFault}
@@ -24,34 +24,45 @@ use Rattle.stm_history.specs.Starts.{Start, first_state, names_after, state_afte
 use Rattle.stm_event_lines.specs.Lines.{event_line}
 
 -- ---- calls
--- the two are one call: a submission of one block, a delivery, a finish or a cancellation under one ticket, or a declaration of one
--- variable
+-- the two are one call: a submission of one block, a delivery, a finish or a cancellation under one ticket, a declaration of one
+-- variable, or one label under one ticket
 abbrev pub IsSameCall : What → What → Type 0
 IsSameCall (Submitted t b) (Submitted u c) = b ≡ c
 IsSameCall (Submitted t b) (Installed u w) = ⊥
 IsSameCall (Submitted t b) (Finished u w m k) = ⊥
 IsSameCall (Submitted t b) (Cancelled u) = ⊥
 IsSameCall (Submitted t b) (DeclaredLate other type first) = ⊥
+IsSameCall (Submitted t b) (Labelled u other) = ⊥
 IsSameCall (Installed t v) (Submitted u c) = ⊥
 IsSameCall (Installed t v) (Installed u w) = t ≡ u
 IsSameCall (Installed t v) (Finished u w m k) = ⊥
 IsSameCall (Installed t v) (Cancelled u) = ⊥
 IsSameCall (Installed t v) (DeclaredLate other type first) = ⊥
+IsSameCall (Installed t v) (Labelled u other) = ⊥
 IsSameCall (Finished t v n stale) (Submitted u c) = ⊥
 IsSameCall (Finished t v n stale) (Installed u w) = ⊥
 IsSameCall (Finished t v n stale) (Finished u w m k) = t ≡ u
 IsSameCall (Finished t v n stale) (Cancelled u) = ⊥
 IsSameCall (Finished t v n stale) (DeclaredLate other type first) = ⊥
+IsSameCall (Finished t v n stale) (Labelled u other) = ⊥
 IsSameCall (Cancelled t) (Submitted u c) = ⊥
 IsSameCall (Cancelled t) (Installed u w) = ⊥
 IsSameCall (Cancelled t) (Finished u w m k) = ⊥
 IsSameCall (Cancelled t) (Cancelled u) = t ≡ u
 IsSameCall (Cancelled t) (DeclaredLate other type first) = ⊥
+IsSameCall (Cancelled t) (Labelled u other) = ⊥
 IsSameCall (DeclaredLate name kind value) (Submitted u c) = ⊥
 IsSameCall (DeclaredLate name kind value) (Installed u w) = ⊥
 IsSameCall (DeclaredLate name kind value) (Finished u w m k) = ⊥
 IsSameCall (DeclaredLate name kind value) (Cancelled u) = ⊥
 IsSameCall (DeclaredLate name kind value) (DeclaredLate other type first) = (name ≡ other) × (kind ≡ type) × (value ≡ first)
+IsSameCall (DeclaredLate name kind value) (Labelled u other) = ⊥
+IsSameCall (Labelled t label) (Submitted u c) = ⊥
+IsSameCall (Labelled t label) (Installed u w) = ⊥
+IsSameCall (Labelled t label) (Finished u w m k) = ⊥
+IsSameCall (Labelled t label) (Cancelled u) = ⊥
+IsSameCall (Labelled t label) (DeclaredLate other type first) = ⊥
+IsSameCall (Labelled t label) (Labelled u other) = (t ≡ u) × (label ≡ other)
 
 -- the verdict on the present store of the block that waits under a ticket
 abbrev pub present_verdict : Slow → Option Waiter → Option Verdict
@@ -68,6 +79,7 @@ expected_what s (Installed t v) = option_map (Installed t) (present_verdict s (f
 expected_what s (Finished t v n stale) = option_map (finish_with s t) (present_verdict s (find_waiter t s.waiters))
 expected_what s (Cancelled t) = Some (Cancelled t)
 expected_what s (DeclaredLate name kind value) = Some (DeclaredLate name kind value)
+expected_what s (Labelled t label) = Some (Labelled t label)
 
 -- the first that holds: no block waits under the ticket, it is current, the history is full. A delivery of what a block does on
 -- the present store is never overtaken.
@@ -86,6 +98,7 @@ call_refusal s full (Installed t v) = option_map Delivery (deliver_refused s ful
 call_refusal s full (Finished t v n stale) = option_map Finish (finish_refused s full t)
 call_refusal s full (Cancelled t) = option_map Cancellation (cancel_refused s full t)
 call_refusal s full (DeclaredLate name kind value) = option_map Declaration (late_declare_refused s full name kind value)
+call_refusal s full (Labelled t label) = option_map Labelling (label_refused s full t)
 
 -- the history has no room for an event
 abbrev pub is_history_full : List Event → Bool

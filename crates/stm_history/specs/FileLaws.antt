@@ -35,8 +35,8 @@ pub record CheckpointsAreLines : Type 0 where
   pub headers : (format next vars waiting : ℕ) → IsCheckpointFormat format → Is32Bit next → Is32Bit vars → Is32Bit waiting
       → IsOneLine (checkpoint_header_line format next vars waiting)
   pub cells : (name : Option (List ℕ)) (c : Cell) → FitsCell name c → IsOneLine (cell_line name c)
-  pub blocks : (names : List Named) (ticket : ℕ) (block : Block) (d : Option Delivered) → FitsWaiting names ticket block d
-      → IsOneLine (waiting_line ticket block.text d)
+  pub blocks : (names : List Named) (ticket : ℕ) (block : Block) (label : List ℕ) (d : Option Delivered) → FitsWaiting names ticket block label d
+      → IsOneLine (waiting_line ticket block.text label d)
 
 -- each line of a history begins with `{`
 abbrev pub LinesBeginWithBraces : Type 0
@@ -49,7 +49,7 @@ abbrev pub CheckpointsBeginWithBraces : Type 0
 CheckpointsBeginWithBraces =
     ((format next vars waiting : ℕ) → BeginsWithBrace (checkpoint_header_line format next vars waiting))
     × ((name : Option (List ℕ)) (c : Cell) → BeginsWithBrace (cell_line name c))
-    × ((ticket : ℕ) (text : List ℕ) (d : Option Delivered) → BeginsWithBrace (waiting_line ticket text d))
+    × ((ticket : ℕ) (text label : List ℕ) (d : Option Delivered) → BeginsWithBrace (waiting_line ticket text label d))
 
 -- the numbers of a history are fixed by its text
 abbrev pub NumbersAreFixed : Type 0

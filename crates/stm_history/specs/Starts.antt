@@ -1,12 +1,13 @@
 -- Where a history begins: with the first values of a table's variables, or from a checkpoint.
-use Rattle.std.specs.Prelude.{◌≡◌, ◌⊎◌, ℕ, ⊤, Bool, true, false, if◌then◌else◌, List, [], ◌∷◌, Option, Some, None, Ok, option_map}
-use Rattle.std.specs.List.{list_any}
+use Rattle.std.specs.Prelude.{◌≡◌, ◌⊎◌, ℕ, ⊤, Bool, true, false, ◌&&◌, ◌||◌, length, if◌then◌else◌, List, [], ◌∷◌, Option, Some, None, Ok, option_map}
+use Rattle.std.specs.Bool.{◌==◌}
+use Rattle.std.specs.List.{list_all, list_any}
 use Rattle.stm_store.specs.Naming.{Named, is_gapless}
 use Rattle.stm_store.specs.Tables.{Declared}
 use Rattle.stm_events.specs.Delivered.{Delivered}
 use Rattle.stm_events.specs.declared.event.Event.{Event}
 use Rattle.stm_events.specs.declared.event.What.{What}
-use Rattle.stm_events.specs.declared.event.What.TheVariants.{Submitted, Installed, Finished, Cancelled, Declared as DeclaredLate}
+use Rattle.stm_events.specs.declared.event.What.TheVariants.{Submitted, Installed, Finished, Cancelled, Declared as DeclaredLate, Labelled}
 use Rattle.stm_events.specs.SlowDesk.{Slow, state_from}
 use Rattle.stm_machine.specs.declared.checkpoint.CheckpointBlock.{CheckpointBlock}
 use Rattle.stm_machine.specs.Checkpoints.{CheckpointView, started_by}
@@ -44,20 +45,42 @@ is_declaration (Installed t v) = false
 is_declaration (Finished t v n stale) = false
 is_declaration (Cancelled t) = false
 is_declaration (DeclaredLate name kind value) = true
+is_declaration (Labelled t label) = false
+
+-- a block gets a label
+abbrev pub is_labelling : What → Bool
+is_labelling (Submitted t block) = false
+is_labelling (Installed t v) = false
+is_labelling (Finished t v n stale) = false
+is_labelling (Cancelled t) = false
+is_labelling (DeclaredLate name kind value) = false
+is_labelling (Labelled t label) = true
 
 -- some event declares a variable
 abbrev pub declares : List Event → Bool
 declares history = list_any (λ e. is_declaration e.what) history
 
--- the format of a start whose history declares no variable: a checkpoint has its own one, or that of late declarations if a name
--- comes after a variable without one
+-- some event gives a label
+abbrev pub labels_blocks : List Event → Bool
+labels_blocks history = list_any (λ e. is_labelling e.what) history
+
+-- the text is no label: it is empty
+abbrev pub is_unlabelled : List ℕ → Bool
+is_unlabelled label = length label == 0
+
+-- none of these waiting blocks has a label
+abbrev pub are_unlabelled : List CheckpointBlock → Bool
+are_unlabelled blocks = list_all (λ b. is_unlabelled b.label) blocks
+
+-- the format of a start whose history declares no variable and labels no block: a checkpoint has its own one, or that of late
+-- declarations if a name comes after a variable without one, or if a block has a label
 abbrev pub format_of_start : Option CheckpointView → ℕ
 format_of_start None = latest_format
-format_of_start (Some c) = if is_gapless c.names then checkpoint_format else declaring_format
+format_of_start (Some c) = if is_gapless c.names && are_unlabelled c.blocks then checkpoint_format else declaring_format
 
 -- the format in which a history is written
 abbrev pub format_for : Option CheckpointView → List Event → ℕ
-format_for checkpoint history = if declares history then declaring_format else format_of_start checkpoint
+format_for checkpoint history = if declares history || labels_blocks history then declaring_format else format_of_start checkpoint
 
 -- the start of a history over a table, in the latest format
 abbrev pub table_start : List Declared → Start

@@ -1,11 +1,12 @@
 //! The lines of a history that begins from a checkpoint, before its events.
 
-ghost use Rattle.std.specs.Prelude.{◌≡◌, ◌⊎◌, ◌↔◌, ◌≤◌, ◌<◌, ◌++◌, ◌∷◌, [], ℕ, List, IfOk, IfErr, OnOk, IsTrue, Some, length, option_map, string_bytes};
+ghost use Rattle.std.specs.Prelude.{◌≡◌, ◌⊎◌, ◌↔◌, ◌≤◌, ◌<◌, ◌++◌, ◌∷◌, [], true, ℕ, List, IfOk, IfErr, OnOk, IsTrue, Some, length, option_map, string_bytes};
 ghost use Rattle.stm_store.specs.Cells.{plains, Covers, IsStore};
 ghost use Rattle.stm_store.specs.Naming.{named_uses, NumbersAreBelow};
 ghost use Rattle.stm_terms.specs.Names.{is_name_text};
 ghost use Rattle.stm_machine.specs.Checkpoints.{MayAdd, checkpoint_block};
-ghost use Rattle.stm_event_lines.specs.CheckpointLines.{FitsCell, FitsWaiting, IsCheckpointFormat, cell_line, waiting_line};
+ghost use Rattle.stm_event_lines.specs.CheckpointLines.{FitsCell, FitsWaiting, IsCheckpointFormat, cell_line, checkpoint_format, waiting_line};
+ghost use Rattle.stm_history.specs.Starts.{is_unlabelled};
 ghost use Rattle.stm_history.specs.Checking.{CheckerState, at_header, at_cells, at_blocks, IsCheckpointHead, LeadsToCells, MayBeNamed, MayRefuse, with_name_of};
 ghost use Rattle.stm_history.specs.Checking.{with_blocks as progress_with_blocks, with_cells as progress_with_cells};
 ghost use Rattle.stm_history.specs.Stages.{keeps, IsStage, LeadsToStage};
@@ -240,26 +241,34 @@ pub(crate) fn take_cell(
     }
 }
 
+/// Whether the waiting block may have its label, if it has one.
+pub(crate) fn may_be_labelled(format: u32, block: &WaitingBlock) -> bool
+    ensures { IsTrue result ↔ (format ≡ checkpoint_format → is_unlabelled block.now.label ≡ true) }
+{
+    format != CHECKPOINT_FORMAT || block.label.as_str().is_empty()
+}
+
 /// Adds the waiting block to the checkpoint.
 pub(crate) fn add_block(
     alloc: Global,
     checkpoint: &mut Checkpoint,
     block: WaitingBlock,
 ) -> Result<(), HistoryFault>
-    ensures done { OnOk result (MayAdd checkpoint.old (checkpoint_block block.ticket block.block block.delivery)
+    ensures done { OnOk result (MayAdd checkpoint.old (checkpoint_block block.ticket block.block block.delivery block.label)
         × (checkpoint.new ≡ record checkpoint.old {
           blocks = checkpoint.old.blocks
-              ++ checkpoint_block block.ticket block.block block.delivery ∷ [];
+              ++ checkpoint_block block.ticket block.block block.delivery block.label ∷ [];
         })) }
     ensures refused { IfErr result (λ e. (e ≡ HistoryFault.NoMemory) ⊎ ((e ≡ HistoryFault.BadHeader)
-        × (MayAdd checkpoint.old (checkpoint_block block.ticket block.block block.delivery) → ⊥))) }
+        × (MayAdd checkpoint.old (checkpoint_block block.ticket block.block block.delivery block.label) → ⊥))) }
 {
     let WaitingBlock {
         ticket,
         block,
+        label,
         delivery,
     } = block;
-    match checkpoint.add(alloc, ticket, block, delivery) {
+    match checkpoint.add(alloc, ticket, block, delivery, label) {
         Ok(()) => Ok(()),
         Err(AddError::NotPossible) => Err(HistoryFault::BadHeader),
         Err(AddError::NoMemory) => Err(HistoryFault::NoMemory),
@@ -276,13 +285,16 @@ fn take_added(
     mut checkpoint: Checkpoint,
     block: WaitingBlock,
 ) -> Result<Stage, HistoryFault>
-    requires { FitsWaiting checkpoint.names block.ticket block.block block.delivery }
+    requires { FitsWaiting checkpoint.names block.ticket block.block block.label block.delivery }
     ensures leads { IfOk result (λ s. LeadsToStage (at_blocks format waiting checkpoint)
-        (waiting_line block.ticket block.block.text block.delivery) s) }
+        (waiting_line block.ticket block.block.text block.label block.delivery) s) }
     ensures refused { IfErr result (λ e. MayRefuse (at_blocks format waiting checkpoint)
-        (waiting_line block.ticket block.block.text block.delivery) e) }
+        (waiting_line block.ticket block.block.text block.label block.delivery) e) }
     ensures keeps { IfOk result (λ s. keeps s ≡ keep) }
 {
+    if !may_be_labelled(format, &block) {
+        return Err(HistoryFault::BadHeader);
+    }
     match add_block(alloc, &mut checkpoint, block) {
         Ok(()) => with_blocks(alloc, seed, keep, format, waiting, checkpoint),
         Err(fault) => Err(fault),

@@ -4,8 +4,9 @@
 ghost use Rattle.std.specs.Prelude.{◌≡◌, ◌≢◌, ◌<◌, false, true, ℕ, List, IfOk, IsTrue, None, Some, if◌then◌else◌};
 ghost use Rattle.stm_eval.specs.EvaluatedFields.{message_ticket};
 ghost use Rattle.stm_events.specs.declared.event.Event.{Event as AnyEvent};
-ghost use Rattle.stm_events.specs.declared.event.What.TheVariants.{Submitted, Installed, Finished, Cancelled, Declared as DeclaredLate};
+ghost use Rattle.stm_events.specs.declared.event.What.TheVariants.{Submitted, Installed, Finished, Cancelled, Declared as DeclaredLate, Labelled};
 ghost use Rattle.stm_events.specs.Refusals.{submit_refused, finish_refused, late_declare_refused};
+ghost use Rattle.stm_events.specs.Labels.{is_label};
 ghost use Rattle.stm_events.specs.SlowDesk.{Slow, max_clients};
 ghost use Rattle.stm_terms.specs.Names.{is_name_text};
 ghost use Rattle.stm_terms.specs.declared.kinds.Ty.{Ty as AnyTy};
@@ -13,7 +14,7 @@ ghost use Rattle.stm_terms.specs.declared.values.Value.{Value as OneValue};
 ghost use Rattle.stm_terms.specs.declared.verdicts.Verdict.{Verdict};
 ghost use Rattle.stm_machine.specs.JobsHandedOut.{IsPresent};
 ghost use Rattle.stm_machine.specs.Machine.{IsAt, HasTicketLeft, MayDeliver};
-ghost use Rattle.stm_history.specs.declared.files.explanation.CallRefusal.TheVariants.{Submission, Delivery, Finish, Cancellation, Declaration};
+ghost use Rattle.stm_history.specs.declared.files.explanation.CallRefusal.TheVariants.{Submission, Delivery, Finish, Cancellation, Declaration, Labelling};
 ghost use Rattle.stm_history.specs.declared.files.expecting.Expectation.TheVariants.{Refuses};
 ghost use Rattle.stm_history.specs.Expecting.{HasName, IsDueOn, IsDueAfter};
 ghost use Rattle.stm_history.specs.Following.{Follows};
@@ -23,7 +24,9 @@ use crate::files::explanation::CallRefusal;
 use crate::files::replayer::{MAX_EVENTS, Replayer};
 use stm_check::SharedBlock;
 use stm_eval::Evaluated;
-use stm_events::errors::{CancelError, DeliverError, FinishError, LateDeclareError, SubmitError};
+use stm_events::errors::{
+    CancelError, DeliverError, FinishError, LabelError, LateDeclareError, SubmitError,
+};
 use stm_events::event::{Event, What};
 use stm_events::shared_name::SharedName;
 use stm_machine::finish::Plan;
@@ -86,6 +89,16 @@ fn refused_declaration(error: LateDeclareError) -> Result<Expectation, NoMemory>
         LateDeclareError::TypeOfValue => Ok(Expectation::Refuses(CallRefusal::Declaration(error))),
         LateDeclareError::HistoryFull => Ok(Expectation::Refuses(CallRefusal::Declaration(error))),
         LateDeclareError::CellsFull => Ok(Expectation::Refuses(CallRefusal::Declaration(error))),
+    }
+}
+
+fn refused_labelling(error: LabelError) -> Result<Expectation, NoMemory>
+    ensures { IfOk result (λ x. (error ≢ LabelError.NoMemory) × (x ≡ Refuses (Labelling error))) }
+{
+    match error {
+        LabelError::NoMemory => Err(NoMemory),
+        LabelError::NoTicket => Ok(Expectation::Refuses(CallRefusal::Labelling(error))),
+        LabelError::HistoryFull => Ok(Expectation::Refuses(CallRefusal::Labelling(error))),
     }
 }
 
@@ -250,6 +263,30 @@ fn declaration(
     }
 }
 
+/// What is due in place of a label of the ticket.
+fn labelling(
+    machine: &Machine,
+    full: bool,
+    ticket: u32,
+    label: &SharedName,
+) -> Result<Expectation, NoMemory>
+    requires { IsTrue (is_label label.now) }
+    ensures { IfOk result (λ x. (s : Slow) → IsAt machine.now s
+        → IsDueOn s full (Labelled ticket label.now) x) }
+{
+    match machine.may_label(ticket) {
+        Ok(()) => {
+            if full {
+                refused_labelling(LabelError::HistoryFull)
+            } else {
+                let label = label.share()?;
+                Ok(Expectation::Due(What::Labelled { ticket, label }))
+            }
+        }
+        Err(error) => refused_labelling(error),
+    }
+}
+
 /// The message is delivered, which is of the present store.
 fn deliver(machine: &mut Machine, message: Evaluated) -> Result<Expectation, NoMemory>
     requires { (s : Slow) × IsAt machine.old s × MayDeliver s message }
@@ -315,6 +352,7 @@ fn due(machine: &mut Machine, full: bool, what: &What) -> Result<Expectation, No
         What::Finished { ticket, .. } => finish(machine, full, *ticket),
         What::Cancelled { ticket } => cancellation(machine, full, *ticket),
         What::Declared { name, kind, value } => declaration(machine, full, name, *kind, *value),
+        What::Labelled { ticket, label } => labelling(machine, full, *ticket, label),
     }
 }
 

@@ -18,7 +18,7 @@ ghost use Rattle.stm_event_lines.specs.Lines.{IsFormat, variable_line};
 ghost use Rattle.stm_history.specs.Stages.{CountsWithinLimits, IsStage};
 ghost use Rattle.stm_event_lines.specs.Variables.{declared};
 
-use crate::files::beginning::{add_block, is_head, may_be_named};
+use crate::files::beginning::{add_block, is_head, may_be_labelled, may_be_named};
 use crate::files::check::{MAX_CELLS, MAX_LINE, Stage};
 use crate::files::expecting::Expectation;
 use crate::files::explanation::Explanation;
@@ -41,6 +41,7 @@ use stm_event_lines::read::Header;
 use stm_event_lines::variable::Variable;
 use stm_event_lines::write::{event_text, header_text, variable_text};
 use stm_events::event::{Event, What};
+use stm_events::label::is_label;
 use stm_events::shared_verdict::SharedVerdict;
 use stm_machine::checkpoint::Checkpoint;
 use stm_store::{Cell, DeclareError, Names, Store, StoreError, Table};
@@ -132,6 +133,10 @@ fn fits_line(what: &What) -> bool
         What::Cancelled { ticket } => {
             number_in_range(*ticket);
             true
+        }
+        What::Labelled { ticket, label } => {
+            number_in_range(*ticket);
+            is_label(label.as_str())
         }
         What::Declared { name, kind, value } => {
             value_in_range(*value);
@@ -381,12 +386,16 @@ fn explain_cell(
 /// The line of a waiting block that may be added to the checkpoint.
 fn block_due(
     alloc: Global,
+    format: u32,
     checkpoint: &mut Checkpoint,
     block: WaitingBlock,
 ) -> Result<Explanation, NoMemory>
-    requires { FitsWaiting checkpoint.old.names block.ticket block.block block.delivery }
-    ensures { IfOk result (λ x. (format waiting : ℕ) → ExplainsHead (at_blocks format waiting checkpoint.old) x) }
+    requires { FitsWaiting checkpoint.old.names block.ticket block.block block.label block.delivery }
+    ensures { IfOk result (λ x. (waiting : ℕ) → ExplainsHead (at_blocks format waiting checkpoint.old) x) }
 {
+    if !may_be_labelled(format, &block) {
+        return Ok(Explanation::Unreadable);
+    }
     let text = waiting_text(alloc, &block)?;
     match add_block(alloc, checkpoint, block) {
         Ok(()) => Ok(short_line(text)),
@@ -398,13 +407,14 @@ fn block_due(
 /// What is reported of a line among the waiting blocks of a checkpoint.
 fn explain_block(
     alloc: Global,
+    format: u32,
     checkpoint: &mut Checkpoint,
     line: &[u8],
 ) -> Result<Explanation, NoMemory>
-    ensures { IfOk result (λ x. (format waiting : ℕ) → ExplainsHead (at_blocks format waiting checkpoint.old) x) }
+    ensures { IfOk result (λ x. (waiting : ℕ) → ExplainsHead (at_blocks format waiting checkpoint.old) x) }
 {
     match loose_waiting(alloc, checkpoint.names(), line)? {
-        Some(block) => block_due(alloc, checkpoint, block),
+        Some(block) => block_due(alloc, format, checkpoint, block),
         None => Ok(Explanation::Unreadable),
     }
 }
@@ -428,7 +438,11 @@ pub(crate) fn explain(
             cells,
             ..
         } => explain_cell(alloc, header, names, cells, line),
-        Stage::AtBlocks { checkpoint, .. } => explain_block(alloc, checkpoint, line),
+        Stage::AtBlocks {
+            format,
+            checkpoint,
+            ..
+        } => explain_block(alloc, *format, checkpoint, line),
         Stage::Running {
             format,
             replayer,

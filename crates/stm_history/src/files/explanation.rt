@@ -1,7 +1,9 @@
 //! What is reported of a line that is not accepted.
 
 use crate::files::fault::HistoryFault;
-use stm_events::errors::{CancelError, DeliverError, FinishError, LateDeclareError, SubmitError};
+use stm_events::errors::{
+    CancelError, DeliverError, FinishError, LabelError, LateDeclareError, SubmitError,
+};
 
 /// Why a desk refuses the call of an event. None of these is out of memory.
 #[derive(Clone, Copy, Debug, PartialEq, Eq, Drop)]
@@ -11,6 +13,7 @@ pub enum CallRefusal {
     Finish(FinishError),
     Cancellation(CancelError),
     Declaration(LateDeclareError),
+    Labelling(LabelError),
 }
 
 /// What is reported of a line that is not accepted.
@@ -21,7 +24,7 @@ pub enum Explanation {
     /// Why a desk refuses the call at this place.
     Refused(CallRefusal),
     /// The line can't be read as a header, a variable, a waiting block of a checkpoint or an event, whichever is due, or what would be
-    /// accepted has no line: a block with a `catch` in format 1, a declaration in a format other than 5, or a line of more than
+    /// accepted has no line: a block with a `catch` in format 1, a declaration or a label in a format other than 5, or a line of more than
     /// 1,048,576 bytes.
     Unreadable,
 }

@@ -6,6 +6,7 @@ pub mod expecting;
 pub mod explaining;
 pub mod explanation;
 pub mod fault;
+pub mod labels;
 pub mod laws;
 pub mod loading;
 pub mod replayer;

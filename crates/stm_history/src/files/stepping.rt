@@ -4,7 +4,7 @@ ghost use Rattle.std.specs.Prelude.{◌≡◌, ◌↔◌, ◌++◌, ◌∷◌, [
 ghost use Rattle.stm_store.specs.Cells.{plains};
 ghost use Rattle.stm_eval.specs.EvaluatedFields.{message_ticket, message_verdict};
 ghost use Rattle.stm_events.specs.declared.event.Event.{Event as AnyEvent};
-ghost use Rattle.stm_events.specs.declared.event.What.TheVariants.{Submitted, Installed, Finished, Cancelled, Declared as DeclaredLate};
+ghost use Rattle.stm_events.specs.declared.event.What.TheVariants.{Submitted, Installed, Finished, Cancelled, Declared as DeclaredLate, Labelled};
 ghost use Rattle.stm_events.specs.SlowDesk.{Slow};
 ghost use Rattle.stm_machine.specs.JobsHandedOut.{IsPresent};
 ghost use Rattle.stm_machine.specs.Machine.{IsAt, HasTicketLeft, MayDeliver, MovesBy};
@@ -16,8 +16,11 @@ ghost use Rattle.stm_history.specs.Starts.{Start};
 use crate::files::replayer::{MAX_EVENTS, Replayer};
 use stm_check::SharedBlock;
 use stm_eval::Evaluated;
-use stm_events::errors::{CancelError, DeliverError, FinishError, LateDeclareError, SubmitError};
+use stm_events::errors::{
+    CancelError, DeliverError, FinishError, LabelError, LateDeclareError, SubmitError,
+};
 use stm_events::event::{Event, What};
+use stm_events::label::is_label;
 use stm_events::same::same_numbers;
 use stm_events::shared_verdict::SharedVerdict;
 use stm_machine::finish::Plan;
@@ -106,6 +109,16 @@ fn declare_refused(error: LateDeclareError) -> StepError
     }
 }
 
+fn label_refused(error: LabelError) -> StepError
+    ensures { error ≡ LabelError.NoMemory → result ≡ StepError.NoMemory }
+{
+    match error {
+        LabelError::NoMemory => StepError::NoMemory,
+        LabelError::NoTicket => StepError::NotAllowed,
+        LabelError::HistoryFull => StepError::NotAllowed,
+    }
+}
+
 /// The block is submitted, under the next ticket.
 fn submitted(machine: &mut Machine, ticket: u32, block: &SharedBlock) -> Result<(), StepError>
     requires { (s : Slow) × IsAt machine.old s × HasTicketLeft s }
@@ -158,6 +171,25 @@ fn declared(machine: &mut Machine, name: &str, kind: Ty, value: Value) -> Result
     }
     machine.declare(name, kind, value)?;
     Ok(())
+}
+
+/// The block gets a label.
+fn labelled(machine: &mut Machine, ticket: u32, label: &str) -> Result<(), StepError>
+    requires { (s : Slow) × IsAt machine.old s }
+    ensures done { OnOk result (MovesBy (Labelled ticket label.now) machine.old machine.new) }
+    ensures not_allowed { IsErrOf result StepError.NotAllowed
+        → IsForbidden (Labelled ticket label.now) machine.old }
+{
+    if !is_label(label) {
+        return Err(StepError::NotAllowed);
+    }
+    match machine.may_label(ticket) {
+        Ok(()) => {
+            machine.label(ticket, label);
+            Ok(())
+        }
+        Err(error) => Err(label_refused(error)),
+    }
 }
 
 /// Whether the fields of a finish are those of the plan.
@@ -374,6 +406,9 @@ impl Replayer {
             What::Declared { name, kind, value } => {
                 self.copy = None;
                 declared(&mut self.machine, name.as_str(), *kind, *value)
+            }
+            What::Labelled { ticket, label } => {
+                labelled(&mut self.machine, *ticket, label.as_str())
             }
         }
     }

@@ -5,7 +5,7 @@ ghost use Rattle.stm_store.specs.Naming.{name_numbered};
 ghost use Rattle.stm_event_lines.specs.CheckpointLines.{cell_line, checkpoint_header_line};
 ghost use Rattle.stm_event_lines.specs.Lines.{header_line};
 ghost use Rattle.stm_history.specs.HistoryText.{block_line, block_lines, cell_lines, checkpoint_text, event_lines, head_text, history_text, start_text, variable_lines, WritesText};
-ghost use Rattle.stm_history.specs.Starts.{declares, format_for, format_of_start, is_declaration, written_start};
+ghost use Rattle.stm_history.specs.Starts.{are_unlabelled, declares, format_for, format_of_start, is_declaration, is_labelling, labels_blocks, written_start};
 
 use std::alloc::Global;
 use std::io::Write;
@@ -39,6 +39,21 @@ fn is_declaration(what: &What) -> bool
         What::Finished { .. } => false,
         What::Cancelled { .. } => false,
         What::Declared { .. } => true,
+        What::Labelled { .. } => false,
+    }
+}
+
+/// Whether what happens is that a block gets a label.
+fn is_labelling(what: &What) -> bool
+    ensures { result ≡ is_labelling what.now }
+{
+    match what {
+        What::Submitted { .. } => false,
+        What::Installed { .. } => false,
+        What::Finished { .. } => false,
+        What::Cancelled { .. } => false,
+        What::Declared { .. } => false,
+        What::Labelled { .. } => true,
     }
 }
 
@@ -49,14 +64,28 @@ fn declares(history: &[Event]) -> bool
     history.iter().any(|event| is_declaration(&event.what))
 }
 
-/// The format of a start whose history declares no variable.
+/// Whether some event gives a label.
+fn labels_blocks(history: &[Event]) -> bool
+    ensures { result ≡ labels_blocks history.now }
+{
+    history.iter().any(|event| is_labelling(&event.what))
+}
+
+/// Whether none of the waiting blocks has a label.
+fn are_unlabelled(blocks: &[CheckpointBlock]) -> bool
+    ensures { result ≡ are_unlabelled blocks.now }
+{
+    blocks.iter().all(|block| block.label.as_str().is_empty())
+}
+
+/// The format of a start whose history declares no variable and labels no block.
 fn format_of_start(checkpoint: Option<&Checkpoint>) -> u32
     ensures { result ≡ format_of_start (option_map (λ c. c.now) checkpoint.entry) }
 {
     match checkpoint {
         None => LATEST_FORMAT,
         Some(checkpoint) => {
-            if checkpoint.names().is_gapless() {
+            if checkpoint.names().is_gapless() && are_unlabelled(checkpoint.blocks()) {
                 CHECKPOINT_FORMAT
             } else {
                 DECLARING_FORMAT
@@ -65,12 +94,12 @@ fn format_of_start(checkpoint: Option<&Checkpoint>) -> u32
     }
 }
 
-/// The format in which a history is written: 5 if an event declares a variable, or if the checkpoint has a name after a variable
-/// without one; otherwise 4 with a checkpoint and 3 without.
+/// The format in which a history is written: 5 if an event declares a variable or labels a block, or if the checkpoint has a name after
+/// a variable without one or a block with a label; otherwise 4 with a checkpoint and 3 without.
 pub fn format_for(checkpoint: Option<&Checkpoint>, history: &[Event]) -> u32
     ensures { result ≡ format_for (option_map (λ c. c.now) checkpoint.entry) history.now }
 {
-    if declares(history) {
+    if declares(history) || labels_blocks(history) {
         DECLARING_FORMAT
     } else {
         format_of_start(checkpoint)
@@ -243,12 +272,14 @@ fn block_text(alloc: Global, block: &CheckpointBlock) -> Result<String, NoMemory
     ensures { IfOk result (λ s. string_bytes s ≡ block_line block.now) }
 {
     let text = block.waiting.block.block().text();
+    let label = block.label.as_str();
     match &block.waiting.held {
-        None => new_block_text(alloc, block.ticket, text),
+        None => new_block_text(alloc, block.ticket, text, label),
         Some(held) => delivered_block_text(
             alloc,
             block.ticket,
             text,
+            label,
             held.reads.as_slice(),
             &held.verdict,
             block.stale,

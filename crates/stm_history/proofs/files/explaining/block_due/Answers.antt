@@ -1,9 +1,10 @@
-use Rattle.std.proofs.Common.{List, ℕ, subst}
+use Rattle.std.proofs.Common.{List, ℕ, arith, subst}
+use Rattle.std.proofs.lemmas.Grind.{common_steps}
 use Rattle.stm_history.specs.Expecting.{IsShortOr}
 use Rattle.stm_history.proofs.Explanations.{block_head}
 use Rattle.stm_history.proofs.files.explaining.block_due.Goals as goal
 
 pub returns-in-Ok : goal.returns-in-Ok
-returns-in-Ok c = λ format waiting.
+returns-in-Ok c = λ waiting.
     let b = c.args.block in
-    block_head format waiting c.args.checkpoint.now b.ticket b.block b.delivery c.short_line.result c.requires c.in-Ok.ensures.done.0 (subst (λ (y : List ℕ). IsShortOr y c.short_line.result) c.in_ok-text.ensures c.short_line.ensures)
+    block_head c.args.format waiting c.args.checkpoint.now b.ticket b.block b.label b.delivery c.short_line.result c.requires c.in-Ok.ensures.done.0 (let no = c.if-not-may_be_labelled.false in c.may_be_labelled.ensures.0 (grind (arith, common_steps))) (subst (λ (y : List ℕ). IsShortOr y c.short_line.result) c.in_ok-text.ensures c.short_line.ensures)

@@ -22,7 +22,7 @@ returns-in-AtCells c =
 pub returns-in-AtBlocks : goal.returns-in-AtBlocks
 returns-in-AtBlocks c =
     let w = c.in-AtBlocks in
-    rw w.is (explained_at c.explain_block.result _ (at_blocks w.format w.waiting w.checkpoint) c.args.line.now c.explain_block.ensures (λ x h. h w.format w.waiting))
+    rw w.is (explained_at c.explain_block.result _ (at_blocks w.format w.waiting w.checkpoint) c.args.line.now c.explain_block.ensures (λ x h. h w.waiting))
 
 pub returns-in-Running : goal.returns-in-Running
 returns-in-Running c =

@@ -1,4 +1,4 @@
-use Rattle.stm_events.specs.declared.event.What.TheVariants.{Submitted, Installed, Cancelled}
+use Rattle.stm_events.specs.declared.event.What.TheVariants.{Submitted, Installed, Cancelled, Labelled}
 use Rattle.stm_history.proofs.AllowedEvents.{copy_kept, copy_made}
 use Rattle.stm_history.proofs.files.replayer.Replayer.act.Goals as goal
 
@@ -16,3 +16,8 @@ pub returns-in-Cancelled-clause-copied : goal.returns-in-Cancelled-clause-copied
 returns-in-Cancelled-clause-copied c =
     let here = c.requires.at in
     copy_kept c.cancelled.result here.0 (Cancelled c.in-Cancelled.ticket) _ _ _ tt here.1 c.cancelled.ensures.done c.requires.copied
+
+pub returns-in-Labelled-clause-copied : goal.returns-in-Labelled-clause-copied
+returns-in-Labelled-clause-copied c =
+    let here = c.requires.at in
+    copy_kept c.labelled.result here.0 (Labelled c.in-Labelled.ticket c.as_str-in-Labelled.result.now) _ _ _ tt here.1 c.labelled.ensures.done c.requires.copied
