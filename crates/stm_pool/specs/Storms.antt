@@ -2,7 +2,7 @@
 use Rattle.std.specs.Prelude.{◌≡◌, ℕ, ◌+◌, Bool, true, false, List, [], ◌∷◌, length, if◌then◌else◌, ⊤}
 use Rattle.stm_events.specs.declared.event.Event.{Event}
 use Rattle.stm_events.specs.declared.event.What.{What}
-use Rattle.stm_events.specs.declared.event.What.TheVariants.{Submitted, Installed, Finished, Cancelled, Declared as DeclaredLate}
+use Rattle.stm_events.specs.declared.event.What.TheVariants.{Submitted, Installed, Finished, Cancelled, Declared as DeclaredLate, Labelled}
 use Rattle.stm_events.specs.SlowSettle.{is_finish}
 use Rattle.stm_pool.specs.declared.storm.Counts.{Counts}
 use Rattle.stm_pool.specs.declared.close.Report.{Report}
@@ -15,6 +15,7 @@ is_submission (Installed t v) = false
 is_submission (Finished t v n stale) = false
 is_submission (Cancelled t) = false
 is_submission (DeclaredLate name kind value) = false
+is_submission (Labelled t label) = false
 
 -- a waiting block was cancelled
 abbrev pub is_cancelled : What → Bool
@@ -23,6 +24,7 @@ is_cancelled (Installed t v) = false
 is_cancelled (Finished t v n stale) = false
 is_cancelled (Cancelled t) = true
 is_cancelled (DeclaredLate name kind value) = false
+is_cancelled (Labelled t label) = false
 
 -- how many events are of a kind
 abbrev pub how_many : (What → Bool) → List Event → ℕ

@@ -31,6 +31,7 @@ fn counts_from(own: &[Event], extra: Extra) -> Counts
             What::Finished { .. } => counts.finished += 1,
             What::Cancelled { .. } => counts.cancelled += 1,
             What::Declared { .. } => {}
+            What::Labelled { .. } => {}
         }
     }
     counts
