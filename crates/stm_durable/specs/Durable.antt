@@ -30,8 +30,8 @@ use Rattle.stm_durable.specs.declared.resuming.OpenFault.TheVariants.{Journal, H
 abbrev pub lent_start : ℕ → List Declared → Option (Bor CheckpointView) → Start
 lent_start format table checkpoint = record { format = format; table = table; checkpoint = option_copied checkpoint }
 
--- The format is the one in which a history is written that begins so and has these events, or that of late declarations, in which each
--- history can be written.
+-- The format is the one in which a history is written that begins so and has these events, or that of late declarations and labels, in
+-- which each history can be written.
 abbrev pub IsFormatFor : ℕ → Option CheckpointView → List Event → Type 0
 IsFormatFor format checkpoint history = (format ≡ format_for checkpoint history) ⊎ (format ≡ declaring_format)
 

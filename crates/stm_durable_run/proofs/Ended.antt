@@ -5,7 +5,7 @@ use Rattle.std.proofs.KnownBytes.{Appends-nil}
 use Rattle.stm_terms.specs.Texts.{IsPrefixOf}
 use Rattle.stm_history.specs.Loading.{HasText, loaded_start}
 use Rattle.stm_history.specs.Judgement.{AreEvents, FitsBefore, IsBefore}
-use Rattle.stm_history.specs.Starts.{declares, first_state, format_of_start}
+use Rattle.stm_history.specs.Starts.{first_state, format_of_start}
 use Rattle.stm_machine.specs.Checkpoints.{CheckpointView, start_of, started_by}
 use Rattle.stm_history.specs.declared.files.loading.Loaded.{Loaded}
 use Rattle.stm_journal.specs.declared.sync_mode.SyncMode.{SyncMode}
@@ -31,7 +31,7 @@ use Rattle.stm_run.proofs.EventsOfConsole.{grows_not}
 use Rattle.stm_durable_run.specs.declared.fault.DurableFault.{DurableFault}
 use Rattle.stm_durable_run.specs.declared.fault.DurableFault.TheVariants.{Run, Journal}
 use Rattle.stm_durable_run.specs.DurableRun.{resumed_console, HasFormat, KeepsConsole, ConsoleKept, IsNoJournalFault, HasCommitted, LeavesBetween, CoversAnswers}
-use Rattle.stm_durable_run.specs.NewEvents.{AreTexts, IsOfItsText, MayBeginRun}
+use Rattle.stm_durable_run.specs.NewEvents.{AreTexts, IsOfItsText, MayBeginRun, needs_declaring_format}
 use Rattle.stm_durable_run.specs.Committing.{HasFinished, HasFailed, LeavesRun}
 use Rattle.stm_durable_run.proofs.Committing.{answers_append}
 use Rattle.stm_durable_run.proofs.Turns.{plains, lines_of_plains}
@@ -74,6 +74,7 @@ of_text known (what.Installed t v) k = tt
 of_text known (what.Finished t v n stale) k = tt
 of_text known (what.Cancelled t) k = tt
 of_text known (what.Declared name kind value) k = tt
+of_text known (what.Labelled t label) k = tt
 
 events_texts : (format : ℕ) (s : Slow) (es : List Event) → AreEvents format s es → AreTexts s es
 events_texts format s [] a = tt
@@ -88,7 +89,7 @@ same_beginning format table None (inr is) = ap (λ (n : ℕ). started_by (rule_o
 
 begins_by : (format : ℕ) (o : Option CheckpointView) (es : List Event) → IsFormatFor format o es → IsFormatFor format o [] ⊎ (format ≡ declaring_format)
 begins_by format o es (inr is) = inr is
-begins_by format o es (inl is) = by (declares es) is
+begins_by format o es (inl is) = by (needs_declaring_format es) is
   where
     by : (b : Bool) → format ≡ (if b then declaring_format else format_of_start o) → IsFormatFor format o [] ⊎ (format ≡ declaring_format)
     by true is = inr is

@@ -1,6 +1,6 @@
 -- New events, and a checkpoint, can be in lines of a history.
-use Rattle.std.proofs.Common.{◌≡◌, ◌≢◌, ◌⊎◌, inl, inr, ℕ, suc, ◌≤◌, List, [], ◌∷◌, ◌++◌, length, drop, Bool, true, false, Option, Some, None, IfSome, refl, sym, ap, ◌∙◌, subst, arith}
-use Rattle.std.specs.Prelude.{slice_get, option_map, ◌||◌, if◌then◌else◌}
+use Rattle.std.proofs.Common.{◌≡◌, ◌≢◌, ◌⊎◌, inl, inr, ℕ, suc, ◌≤◌, List, [], ◌∷◌, ◌++◌, length, drop, Bool, true, false, Option, Some, None, IfSome, refl, sym, ap, ap₂, ◌∙◌, subst, arith}
+use Rattle.std.specs.Prelude.{slice_get, option_map, IsSomeAnd, ◌&&◌, ◌||◌, if◌then◌else◌}
 use Rattle.std.proofs.Math.Seq.{drop-append_seam}
 use Rattle.stm_terms.specs.declared.kinds.Ty.{Ty}
 use Rattle.stm_terms.specs.declared.values.Value.{Value}
@@ -11,9 +11,10 @@ use Rattle.stm_store.specs.Naming.{Named, is_gapless}
 use Rattle.stm_store.specs.Tables.{Declared}
 use Rattle.stm_events.specs.declared.event.Event.{Event}
 use Rattle.stm_events.specs.declared.event.What.{What}
-use Rattle.stm_events.specs.declared.event.What.TheVariants.{Submitted, Installed, Finished, Cancelled, Declared as DeclaredLate}
+use Rattle.stm_events.specs.declared.event.What.TheVariants.{Submitted, Installed, Finished, Cancelled, Declared as DeclaredLate, Labelled}
+use Rattle.stm_events.specs.Labels.{is_label}
 use Rattle.stm_events.specs.Laws.{IsWellTyped, SubmitsWellTyped, SubmittedAreWellTyped}
-use Rattle.stm_events.specs.SlowDesk.{Allows, Slow, Waiter, LegalFrom, after, state_from}
+use Rattle.stm_events.specs.SlowDesk.{Allows, Slow, Waiter, LegalFrom, after, find_waiter, state_from}
 use Rattle.stm_events.specs.States.{IsLegalFrom}
 use Rattle.stm_waiting.specs.declared.waiting.Held.{Held}
 use Rattle.stm_machine.specs.declared.checkpoint.CheckpointBlock.{CheckpointBlock}
@@ -25,7 +26,7 @@ use Rattle.stm_event_lines.specs.Lines.{declaring_format}
 use Rattle.stm_event_lines.specs.WholeBlocks.{CheckedAreWellTyped}
 use Rattle.stm_event_lines.proofs.CheckedBlocks.{checked_blocks_stay}
 use Rattle.stm_history.specs.Judgement.{FitCells, FitBlocks, FitsBefore, FormatFits}
-use Rattle.stm_history.specs.Starts.{AreOfText, BlocksAreOfText, declares, format_of_start, is_declaration}
+use Rattle.stm_history.specs.Starts.{AreOfText, BlocksAreOfText, are_unlabelled, declares, format_of_start, is_declaration, is_labelling, labels_blocks}
 use Rattle.stm_history.proofs.KeptIsTaken.{written_fits}
 use Rattle.stm_durable.specs.Durable.{AreFit, IsFormatFor}
 use Rattle.stm_desk.specs.DeskView.{start_state}
@@ -39,7 +40,7 @@ use Rattle.stm_run.proofs.EventsOfConsole.{start_texts, texts_after, checkpoint_
 use Rattle.stm_run.proofs.FitTables.{table_sound}
 use Rattle.stm_run.proofs.SmallNumbers.{front_is_legal, rest_small}
 use Rattle.stm_run.proofs.SoundStates.{IsSound, sound_from}
-use Rattle.stm_durable_run.specs.NewEvents.{AreTexts, IsOfItsText, MayBeginRun, LastEventsFit, CheckpointsFit, first_state_of}
+use Rattle.stm_durable_run.specs.NewEvents.{AreTexts, IsOfItsText, MayBeginRun, LastEventsFit, CheckpointsFit, first_state_of, needs_declaring_format}
 use Rattle.stm_durable_run.specs.Ranges.{IsEventInRange, AreEventsInRange, IsHeldInRange, AreCellsInRange, AreBlocksInRange}
 use Rattle.stm_durable_run.proofs.VerdictsInRange.{all_in_range, delivery_fits}
 
@@ -67,6 +68,7 @@ its_text known (Installed t v) h = tt
 its_text known (Finished t v n stale) h = tt
 its_text known (Cancelled t) h = tt
 its_text known (DeclaredLate name kind value) h = tt
+its_text known (Labelled t label) h = tt
 
 of_console_texts : (s : Slow) (es : List Event) → AreOfConsole s es → AreTexts s es
 of_console_texts s [] h = tt
@@ -101,6 +103,7 @@ texts_next s (Installed t v) o h = texts_after s (Installed t v) o h
 texts_next s (Finished t v n stale) o h = texts_after s (Finished t v n stale) o h
 texts_next s (Cancelled t) o h = texts_after s (Cancelled t) o h
 texts_next s (DeclaredLate name kind value) o h = texts_later s.names _ s.waiters h
+texts_next s (Labelled t label) o h = h
 
 texts_after_all : (s : Slow) (es : List Event) → AreTexts s es → WaitersAreOfText s → WaitersAreOfText (state_from s es)
 texts_after_all s [] o h = h
@@ -134,6 +137,11 @@ legal_back : (s : Slow) (xs ys : List Event) → LegalFrom s (xs ++ ys) → Lega
 legal_back s [] ys l = l
 legal_back s (x ∷ xs) ys l = legal_back (after s x.what) xs ys l.1
 
+-- what a block that waits may be labelled with is a label
+label_fits : (label : List ℕ) (o : Option Waiter) → IsSomeAnd o (λ w. is_label label ≡ true) → is_label label ≡ true
+label_fits label None a = absurd a
+label_fits label (Some w) a = a
+
 -- the first value of a variable that may be declared is in range if it is read
 what_fits : (s : Slow) (what : What) → Allows s what → IsOfItsText s.names what → AreNumbersSmall what → IsVerdictInRange what → IsEventInRange what → WhatFitsNames s.names what
 what_fits s (Submitted ticket block) a t n v r = (n, t)
@@ -141,9 +149,10 @@ what_fits s (Installed ticket w) a t n v r = (n, v)
 what_fits s (Finished ticket w first_new stale) a t n v r = (n.0, v, n.1, n.2)
 what_fits s (Cancelled ticket) a t n v r = n
 what_fits s (DeclaredLate name kind value) a t n v r = (a.name_is, n.0, r)
+what_fits s (Labelled ticket label) a t n v r = (n, label_fits label (find_waiter ticket s.waiters) a)
 
 -- what may be in a format
-what_may_be : (format : ℕ) (what : What) → (format ≡ declaring_format) ⊎ ((format ≢ 1) × (is_declaration what ≡ false)) → WhatFitsFormat format what
+what_may_be : (format : ℕ) (what : What) → (format ≡ declaring_format) ⊎ ((format ≢ 1) × ((is_declaration what || is_labelling what) ≡ false)) → WhatFitsFormat format what
 what_may_be format (Submitted ticket block) (inl is) = λ one. absurd (cc (one, is))
 what_may_be format (Submitted ticket block) (inr none) = λ one. absurd (none.0 one)
 what_may_be format (Installed ticket w) h = tt
@@ -151,18 +160,31 @@ what_may_be format (Finished ticket w first_new stale) h = tt
 what_may_be format (Cancelled ticket) h = tt
 what_may_be format (DeclaredLate name kind value) (inl is) = is
 what_may_be format (DeclaredLate name kind value) (inr none) = absurd (cc none.1)
+what_may_be format (Labelled ticket label) (inl is) = is
+what_may_be format (Labelled ticket label) (inr none) = absurd (cc none.1)
 
 pub none_of : (b rest : Bool) → (b || rest) ≡ false → (b ≡ false) × (rest ≡ false)
 none_of true rest e = absurd (cc e)
 none_of false rest e = (refl, e)
 
-may_be_next : (format : ℕ) (e : Event) (es : List Event) → (format ≡ declaring_format) ⊎ ((format ≢ 1) × (declares (e ∷ es) ≡ false))
-    → ((format ≡ declaring_format) ⊎ ((format ≢ 1) × (is_declaration e.what ≡ false))) × ((format ≡ declaring_format) ⊎ ((format ≢ 1) × (declares es ≡ false)))
+pub neither : {a b : Bool} → a ≡ false → b ≡ false → (a || b) ≡ false
+neither a b = ap₂ (λ (x y : Bool). x || y) a b
+
+-- if none of the events needs the format of late declarations and labels, neither does the first, nor one of the others
+first_and_others : (e : Event) (es : List Event) → needs_declaring_format (e ∷ es) ≡ false → ((is_declaration e.what || is_labelling e.what) ≡ false) × (needs_declaring_format es ≡ false)
+first_and_others e es none =
+    let both = none_of (declares (e ∷ es)) (labels_blocks (e ∷ es)) none in
+    let declared = none_of (is_declaration e.what) (declares es) both.0 in
+    let labelled = none_of (is_labelling e.what) (labels_blocks es) both.1 in
+    (neither declared.0 labelled.0, neither declared.1 labelled.1)
+
+may_be_next : (format : ℕ) (e : Event) (es : List Event) → (format ≡ declaring_format) ⊎ ((format ≢ 1) × (needs_declaring_format (e ∷ es) ≡ false))
+    → ((format ≡ declaring_format) ⊎ ((format ≢ 1) × ((is_declaration e.what || is_labelling e.what) ≡ false))) × ((format ≡ declaring_format) ⊎ ((format ≢ 1) × (needs_declaring_format es ≡ false)))
 may_be_next format e es (inl is) = (inl is, inl is)
-may_be_next format e es (inr none) = let both = none_of (is_declaration e.what) (declares es) none.1 in (inr (none.0, both.0), inr (none.0, both.1))
+may_be_next format e es (inr none) = let both = first_and_others e es none.1 in (inr (none.0, both.0), inr (none.0, both.1))
 
 all_fit : (format : ℕ) (s : Slow) (es : List Event) → LegalFrom s es → AreTexts s es → HaveSmallNumbers es → AreVerdictsInRange es → AreEventsInRange es
-    → (format ≡ declaring_format) ⊎ ((format ≢ 1) × (declares es ≡ false)) → AreFit format s es
+    → (format ≡ declaring_format) ⊎ ((format ≢ 1) × (needs_declaring_format es ≡ false)) → AreFit format s es
 all_fit format s [] l t n v r f = tt
 all_fit format s (e ∷ es) l t n v r f =
     let both = may_be_next format e es f in (
@@ -172,33 +194,33 @@ all_fit format s (e ∷ es) l t n v r f =
     )
 
 -- ---- formats
-declared_back : (xs ys : List Event) → declares (xs ++ ys) ≡ false → declares ys ≡ false
-declared_back [] ys e = e
-declared_back (x ∷ xs) ys e = declared_back xs ys (none_of (is_declaration x.what) (declares (xs ++ ys)) e).1
+none_back : (xs ys : List Event) → needs_declaring_format (xs ++ ys) ≡ false → needs_declaring_format ys ≡ false
+none_back [] ys e = e
+none_back (x ∷ xs) ys e = none_back xs ys (first_and_others x (xs ++ ys) e).1
 
 start_format : (o : Option CheckpointView) → format_of_start o ≢ 1
 start_format None = λ e. cc e
-start_format (Some c) = by (is_gapless c.names)
+start_format (Some c) = by (is_gapless c.names && are_unlabelled c.blocks)
   where
     by : (b : Bool) → (if b then checkpoint_format else declaring_format) ≢ 1
     by true = λ e. cc e
     by false = λ e. cc e
 
-by_declared : (o : Option CheckpointView) (format : ℕ) (b : Bool) → format ≡ (if b then declaring_format else format_of_start o) → (format ≡ declaring_format) ⊎ ((format ≢ 1) × (b ≡ false))
-by_declared o format true is = inl is
-by_declared o format false is = inr (λ one. start_format o (sym is ∙ one), refl)
+by_need : (o : Option CheckpointView) (format : ℕ) (b : Bool) → format ≡ (if b then declaring_format else format_of_start o) → (format ≡ declaring_format) ⊎ ((format ≢ 1) × (b ≡ false))
+by_need o format true is = inl is
+by_need o format false is = inr (λ one. start_format o (sym is ∙ one), refl)
 
-format_holds : (o : Option CheckpointView) (format : ℕ) (es : List Event) → IsFormatFor format o es → (format ≡ declaring_format) ⊎ ((format ≢ 1) × (declares es ≡ false))
-format_holds o format es (inl is) = by_declared o format (declares es) is
+format_holds : (o : Option CheckpointView) (format : ℕ) (es : List Event) → IsFormatFor format o es → (format ≡ declaring_format) ⊎ ((format ≢ 1) × (needs_declaring_format es ≡ false))
+format_holds o format es (inl is) = by_need o format (needs_declaring_format es) is
 format_holds o format es (inr is) = inl is
 
-back_holds : (format : ℕ) (xs ys : List Event) → (format ≡ declaring_format) ⊎ ((format ≢ 1) × (declares (xs ++ ys) ≡ false)) → (format ≡ declaring_format) ⊎ ((format ≢ 1) × (declares ys ≡ false))
+back_holds : (format : ℕ) (xs ys : List Event) → (format ≡ declaring_format) ⊎ ((format ≢ 1) × (needs_declaring_format (xs ++ ys) ≡ false)) → (format ≡ declaring_format) ⊎ ((format ≢ 1) × (needs_declaring_format ys ≡ false))
 back_holds format xs ys (inl is) = inl is
-back_holds format xs ys (inr none) = inr (none.0, declared_back xs ys none.1)
+back_holds format xs ys (inr none) = inr (none.0, none_back xs ys none.1)
 
 declaring_fits : (o : Option CheckpointView) (format : ℕ) → format ≡ declaring_format → FormatFits format o
 declaring_fits None format is = inr is
-declaring_fits (Some c) format is = (inr is, λ four. absurd (cc (four, is)))
+declaring_fits (Some c) format is = (inr is, λ four. absurd (cc (four, is)), λ four. absurd (cc (four, is)))
 
 pub format_fits : (table : List Declared) (o : Option CheckpointView) (format : ℕ) (es : List Event) → IsFormatFor format o es → FormatFits format o
 format_fits table o format es (inl is) = subst (λ (n : ℕ). FormatFits n o) (sym is) (written_fits table o es)
@@ -217,7 +239,7 @@ held_fits store b (Some h) typed covered action right r = (r.0, delivery_fits st
 blocks_fit : (names : List Named) (store : List Cell) (n k : ℕ) (bs : List CheckpointBlock) → StoreIsTyped (plains store) → AreCheckpointBlocks store n k bs → AreOfText names bs → AreBlocksInRange bs → FitBlocks names bs
 blocks_fit names store n k [] typed a t r = tt
 blocks_fit names store n k (b ∷ bs) typed a t r = (
-  (r.0.0, t.0, held_fits store b b.waiting.held typed a.2.covered a.2.typed a.2.delivery r.0.1),
+  (r.0.0, t.0, held_fits store b b.waiting.held typed a.2.covered a.2.typed a.2.delivery r.0.1, a.2.label),
   blocks_fit names store n b.ticket bs typed a.3 t.1 r.1,
 )
 
@@ -241,6 +263,7 @@ module _ (checked : CheckedAreWellTyped) where
   what_typed known (Finished t v n stale) h = tt
   what_typed known (Cancelled t) h = tt
   what_typed known (DeclaredLate name kind value) h = tt
+  what_typed known (Labelled t label) h = tt
 
   texts_typed : (s : Slow) (es : List Event) → AreTexts s es → SubmittedAreWellTyped es
   texts_typed s [] h = tt

@@ -1,6 +1,7 @@
 -- The events of a console that were not recorded are recorded; or a new file has them all, or begins from its checkpoint.
 use Rattle.std.proofs.Common.{◌≡◌, ◌≢◌, ⊎_elim, inl, inr, ℕ, zero, suc, ◌≤◌, List, [], ◌∷◌, ◌++◌, length, take, drop, Bool, true, false, IsTrue, Option, Some, Result, Ok, Err, OnOk, refl, sym, ap, ap₂, ◌∙◌, subst, arith, append_assoc, append-nil, length-append}
 use Rattle.std.specs.Prelude.{◌⊎◌, ◌||◌, if◌then◌else◌, is_some}
+use Rattle.std.specs.List.{list_any}
 use Rattle.std.proofs.Math.Seq.{take-append_seam}
 use Rattle.stm_store.specs.Naming.{AreKnown}
 use Rattle.stm_store.specs.Tables.{Declared}
@@ -11,7 +12,7 @@ use Rattle.stm_machine.specs.Checkpoints.{CheckpointView, MayStart}
 use Rattle.stm_event_lines.specs.Lines.{declaring_format}
 use Rattle.stm_history.specs.HistoryText.{history_text, start_text}
 use Rattle.stm_history.specs.Judgement.{FitsBefore}
-use Rattle.stm_history.specs.Starts.{Start, declares, format_for, format_of_start, is_declaration, written_start}
+use Rattle.stm_history.specs.Starts.{Start, declares, format_for, format_of_start, is_declaration, is_labelling, labels_blocks, written_start}
 use Rattle.stm_journal.specs.declared.sync_mode.SyncMode.{SyncMode}
 use Rattle.stm_journal.specs.declared.sync_mode.SyncMode.TheVariants.{Full, Append, Never}
 use Rattle.stm_journal.specs.Disk.{Disk, LeavesOnly}
@@ -29,9 +30,9 @@ use Rattle.stm_run.specs.Growing.{Grows}
 use Rattle.stm_run.proofs.EventsOfConsole.{grows_not}
 use Rattle.stm_durable_run.specs.DurableRun.{ConsoleKept, HasFormat, KeepsConsole, LeavesBetween, start_in}
 use Rattle.stm_durable_run.specs.Committing.{LeavesBatches, MayCommit, MayBeginAnew}
-use Rattle.stm_durable_run.specs.NewEvents.{MayBeginRun, LastEventsFit, CheckpointsFit, first_state_of}
+use Rattle.stm_durable_run.specs.NewEvents.{MayBeginRun, LastEventsFit, CheckpointsFit, first_state_of, needs_declaring_format}
 use Rattle.stm_durable_run.specs.Ranges.{AreEventsInRange, AreCellsInRange, AreBlocksInRange}
-use Rattle.stm_durable_run.proofs.NewEvents.{added_are, format_fits, grown_begins, none_of}
+use Rattle.stm_durable_run.proofs.NewEvents.{added_are, format_fits, grown_begins, neither, none_of}
 
 -- ---- what is still to be recorded
 take-drop : (n : ℕ) (es : List Event) → es ≡ take n es ++ drop n es
@@ -63,36 +64,45 @@ pub all_fit_anew : LastEventsFit → (t : Console) → MayBeginRun t → MayStar
 all_fit_anew law t m start legal range = (first_state_of t, law t declaring_format [] (events_of t) m start legal (inr refl) refl range)
 
 -- ---- the format of what is recorded
-fewer_declare : (xs ys : List Event) → declares (xs ++ ys) ≡ false → declares xs ≡ false
-fewer_declare [] ys e = refl
-fewer_declare (x ∷ xs) ys e =
-    let both = none_of (is_declaration x.what) (declares (xs ++ ys)) e in ap₂ (λ (a b : Bool). a || b) both.0 (fewer_declare xs ys both.1)
+fewer_have : (p : Event → Bool) (xs ys : List Event) → list_any p (xs ++ ys) ≡ false → list_any p xs ≡ false
+fewer_have p [] ys e = refl
+fewer_have p (x ∷ xs) ys e = let both = none_of (p x) (list_any p (xs ++ ys)) e in neither both.0 (fewer_have p xs ys both.1)
 
-more_declare : (xs ys : List Event) → declares ys ≡ false → declares (xs ++ ys) ≡ declares xs
-more_declare [] ys e = e
-more_declare (x ∷ xs) ys e = ap (λ (b : Bool). is_declaration x.what || b) (more_declare xs ys e)
+more_have : (p : Event → Bool) (xs ys : List Event) → list_any p ys ≡ false → list_any p (xs ++ ys) ≡ list_any p xs
+more_have p [] ys e = e
+more_have p (x ∷ xs) ys e = ap (λ (b : Bool). p x || b) (more_have p xs ys e)
+
+fewer_need : (xs ys : List Event) → needs_declaring_format (xs ++ ys) ≡ false → needs_declaring_format xs ≡ false
+fewer_need xs ys e =
+    let both = none_of (declares (xs ++ ys)) (labels_blocks (xs ++ ys)) e in
+    neither (fewer_have (λ e. is_declaration e.what) xs ys both.0) (fewer_have (λ e. is_labelling e.what) xs ys both.1)
+
+more_need : (xs ys : List Event) → needs_declaring_format ys ≡ false → needs_declaring_format (xs ++ ys) ≡ needs_declaring_format xs
+more_need xs ys e =
+    let both = none_of (declares ys) (labels_blocks ys) e in
+    ap₂ (λ (a b : Bool). a || b) (more_have (λ e. is_declaration e.what) xs ys both.0) (more_have (λ e. is_labelling e.what) xs ys both.1)
 
 -- the format for more events is one for fewer
 pub front_format : (format : ℕ) (o : Option CheckpointView) (xs ys : List Event) → IsFormatFor format o (xs ++ ys) → IsFormatFor format o xs
 front_format format o xs ys (inr is) = inr is
-front_format format o xs ys (inl is) = by (declares (xs ++ ys)) refl is
+front_format format o xs ys (inl is) = by (needs_declaring_format (xs ++ ys)) refl is
   where
-    by : (b : Bool) → declares (xs ++ ys) ≡ b → format ≡ (if b then declaring_format else format_of_start o) → IsFormatFor format o xs
+    by : (b : Bool) → needs_declaring_format (xs ++ ys) ≡ b → format ≡ (if b then declaring_format else format_of_start o) → IsFormatFor format o xs
     by true e is = inr is
-    by false e is = inl (is ∙ sym (ap (λ (b : Bool). if b then declaring_format else format_of_start o) (fewer_declare xs ys e)))
+    by false e is = inl (is ∙ sym (ap (λ (b : Bool). if b then declaring_format else format_of_start o) (fewer_need xs ys e)))
 
--- and one for more if it is that of late declarations, or none of these declares a variable
-longer_format : (format : ℕ) (o : Option CheckpointView) (xs ys : List Event) → IsFormatFor format o xs → (format ≡ declaring_format) ⊎ (declares ys ≡ false) → IsFormatFor format o (xs ++ ys)
+-- and one for more if it is that of late declarations and labels, or none of these needs that one
+longer_format : (format : ℕ) (o : Option CheckpointView) (xs ys : List Event) → IsFormatFor format o xs → (format ≡ declaring_format) ⊎ (needs_declaring_format ys ≡ false) → IsFormatFor format o (xs ++ ys)
 longer_format format o xs ys is (inl five) = inr five
 longer_format format o xs ys (inr five) (inr none) = inr five
-longer_format format o xs ys (inl is) (inr none) = inl (is ∙ sym (ap (λ (b : Bool). if b then declaring_format else format_of_start o) (more_declare xs ys none)))
+longer_format format o xs ys (inl is) (inr none) = inl (is ∙ sym (ap (λ (b : Bool). if b then declaring_format else format_of_start o) (more_need xs ys none)))
 
 -- the format of the file is one for the later console
-pub kept_format : {D : Type 0} (f : HistoryFile D) (s t : Console) (n : ℕ) → Grows s t → n ≡ length (events_of s) → HasFormat f s → (f.format ≡ declaring_format) ⊎ (declares (drop n (events_of t)) ≡ false) → HasFormat f t
+pub kept_format : {D : Type 0} (f : HistoryFile D) (s t : Console) (n : ℕ) → Grows s t → n ≡ length (events_of s) → HasFormat f s → (f.format ≡ declaring_format) ⊎ (needs_declaring_format (drop n (events_of t)) ≡ false) → HasFormat f t
 kept_format f s t n g e is more =
     subst (λ (es : List Event). IsFormatFor f.format (checkpoint_of_console t) es) (sym g.events)
     (longer_format f.format (checkpoint_of_console t) (events_of s) g.added (subst (λ (o : Option CheckpointView). IsFormatFor f.format o (events_of s)) (sym g.same_start) is)
-    (subst (λ (es : List Event). (f.format ≡ declaring_format) ⊎ (declares es ≡ false)) (others_are s t g n e) more))
+    (subst (λ (es : List Event). (f.format ≡ declaring_format) ⊎ (needs_declaring_format es ≡ false)) (others_are s t g n e) more))
 
 -- ---- what a crash leaves of them
 module _ {D : Type 0} (disk : Disk D) (f : HistoryFile D) where
@@ -244,7 +254,7 @@ some_kept disk f s k honest = (start_in f.format s, events_of s, (k.1 honest).hi
 -- the format in which its events are recorded is one for them all
 pub open_format : {D : Type 0} (f : HistoryFile D) (s t : Console) (n format : ℕ) → Grows s t → n ≡ length (events_of s) → HasFormat f s → (b : Bool) → f.begun ≡ b
     → (f.begun ≡ true → format ≡ f.format) → (f.begun ≡ false → format ≡ format_for (checkpoint_of_console t) (events_of t))
-    → (b ≡ true → (f.format ≡ declaring_format) ⊎ (declares (drop n (events_of t)) ≡ false)) → IsFormatFor format (checkpoint_of_console t) (events_of t)
+    → (b ≡ true → (f.format ≡ declaring_format) ⊎ (needs_declaring_format (drop n (events_of t)) ≡ false)) → IsFormatFor format (checkpoint_of_console t) (events_of t)
 open_format f s t n format g e is true begun same none more =
     subst (λ (x : ℕ). IsFormatFor x (checkpoint_of_console t) (events_of t)) (sym (same begun)) (kept_format f s t n g e is (more refl))
 open_format f s t n format g e is false begun same none more = inl (none begun)

@@ -16,7 +16,7 @@ use Rattle.stm_check.specs.TypedBlock.{Block}
 use Rattle.stm_check.proofs.TypingLaws.{every_verdict_fits}
 use Rattle.stm_events.specs.declared.event.Event.{Event}
 use Rattle.stm_events.specs.declared.event.What.{What}
-use Rattle.stm_events.specs.declared.event.What.TheVariants.{Submitted, Installed, Finished, Cancelled, Declared as DeclaredLate}
+use Rattle.stm_events.specs.declared.event.What.TheVariants.{Submitted, Installed, Finished, Cancelled, Declared as DeclaredLate, Labelled}
 use Rattle.stm_events.specs.Laws.{IsWellTyped, SubmittedAreWellTyped}
 use Rattle.stm_events.specs.SlowDesk.{Waiter, Slow, verdict_on, find_waiter, after, Allows, LegalFrom}
 use Rattle.stm_events.proofs.TypedStores.{typed_verdict}
@@ -57,6 +57,7 @@ allowed_in_range s k (Installed t v) a range = by_waiter s k t v _ (find_waiter 
 allowed_in_range s k (Finished t v n stale) a range = by_waiter s k t v _ (find_waiter t s.waiters) refl a (λ w m. m.verdict_is) range
 allowed_in_range s k (Cancelled t) a range = tt
 allowed_in_range s k (DeclaredLate name kind value) a range = tt
+allowed_in_range s k (Labelled t label) a range = tt
 
 pub all_in_range : (s : Slow) → IsSound s → (es : List Event) → LegalFrom s es → SubmittedAreWellTyped es → AreEventsInRange es → AreVerdictsInRange es
 all_in_range s k [] l w range = tt

@@ -10,7 +10,7 @@ use Rattle.stm_journal.specs.declared.sync_mode.SyncMode.{SyncMode}
 use Rattle.stm_journal.specs.Disk.{Disk, LeavesOnly}
 use Rattle.stm_durable.specs.Durable.{HistoryKept, LeavesHistory, MayBecome}
 use Rattle.stm_durable.specs.declared.recording.HistoryFile.{HistoryFile}
-use Rattle.stm_commands.specs.Checkpointing.{are_tickets_full, checkpoint_line, checkpoint_now}
+use Rattle.stm_commands.specs.Checkpointing.{are_tickets_full, checkpoint_line, bare_checkpoint_step}
 use Rattle.stm_commands.specs.Refusals.{refused}
 use Rattle.stm_lines.specs.Lines.{lines_of, whole_lines_of}
 use Rattle.stm_lines.specs.declared.run_fault.RunFault.TheVariants.{Read}
@@ -202,7 +202,7 @@ BeginningLeaves disk old new console =
 
 -- what a checkpoint leaves that was asked for: the desk is as it was, unless it can be made
 abbrev pub asked_step : Console → Console × List ℕ
-asked_step s = on_console (checkpoint_now (present_desk s))
+asked_step s = on_console (bare_checkpoint_step (present_desk s))
 
 -- the answer to `checkpoint` if it can't be made
 abbrev pub no_checkpoint_text : List ℕ

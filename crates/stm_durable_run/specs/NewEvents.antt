@@ -1,9 +1,9 @@
 -- The events that a console adds, and its checkpoint, can be in lines of a history.
-use Rattle.std.specs.Prelude.{◌≡◌, ⊤, ℕ, List, [], ◌∷◌, ◌++◌, Some, Ok}
+use Rattle.std.specs.Prelude.{◌≡◌, ⊤, ℕ, Bool, ◌||◌, List, [], ◌∷◌, ◌++◌, Some, Ok}
 use Rattle.stm_store.specs.Naming.{AreKnown, Named}
 use Rattle.stm_events.specs.declared.event.Event.{Event}
 use Rattle.stm_events.specs.declared.event.What.{What}
-use Rattle.stm_events.specs.declared.event.What.TheVariants.{Submitted, Installed, Finished, Cancelled, Declared as DeclaredLate}
+use Rattle.stm_events.specs.declared.event.What.TheVariants.{Submitted, Installed, Finished, Cancelled, Declared as DeclaredLate, Labelled}
 use Rattle.stm_events.specs.SlowDesk.{Slow, after, state_from}
 use Rattle.stm_events.specs.States.{IsLegalFrom}
 use Rattle.stm_machine.specs.Checkpoints.{CheckpointView, MayStart}
@@ -17,6 +17,7 @@ use Rattle.stm_run.specs.Growing.{Grows}
 use Rattle.stm_durable_run.specs.DurableRun.{start_in}
 use Rattle.stm_durable_run.specs.Ranges.{AreEventsInRange, AreCellsInRange, AreBlocksInRange}
 use Rattle.stm_history.specs.Judgement.{FitsBefore}
+use Rattle.stm_history.specs.Starts.{declares, labels_blocks}
 
 -- over the names, a block that is submitted is what its text checks to
 abbrev pub IsOfItsText : List Named → What → Type 0
@@ -25,11 +26,16 @@ IsOfItsText known (Installed ticket v) = ⊤
 IsOfItsText known (Finished ticket v first_new stale) = ⊤
 IsOfItsText known (Cancelled ticket) = ⊤
 IsOfItsText known (DeclaredLate name kind value) = ⊤
+IsOfItsText known (Labelled ticket label) = ⊤
 
 -- each block that is submitted, from a state on, is, over the names of the state before
 abbrev pub AreTexts : Slow → List Event → Type 0
 AreTexts s [] = ⊤
 AreTexts s (e ∷ es) = IsOfItsText s.names e.what × AreTexts (after s e.what) es
+
+-- some event needs the format of late declarations and labels: it declares a variable, or labels a block
+abbrev pub needs_declaring_format : List Event → Bool
+needs_declaring_format es = declares es || labels_blocks es
 
 -- the state in which the events of the console begin
 abbrev pub first_state_of : Console → Slow

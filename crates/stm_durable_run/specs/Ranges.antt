@@ -10,7 +10,7 @@ use Rattle.stm_terms.specs.declared.verdicts.Verdict.{Verdict}
 use Rattle.stm_terms.specs.declared.verdicts.Verdict.TheVariants.{Commits, Throws, Blocks}
 use Rattle.stm_events.specs.declared.event.Event.{Event}
 use Rattle.stm_events.specs.declared.event.What.{What}
-use Rattle.stm_events.specs.declared.event.What.TheVariants.{Submitted, Installed, Finished, Cancelled, Declared as DeclaredLate}
+use Rattle.stm_events.specs.declared.event.What.TheVariants.{Submitted, Installed, Finished, Cancelled, Declared as DeclaredLate, Labelled}
 use Rattle.stm_event_lines.specs.Fits.{Is32Bit, FitsInt, FitsValue, FitWrites}
 
 -- the values of new variables are in range
@@ -32,6 +32,7 @@ IsEventInRange (Installed ticket v) = IsInRange v
 IsEventInRange (Finished ticket v first_new stale) = IsInRange v
 IsEventInRange (Cancelled ticket) = ⊤
 IsEventInRange (DeclaredLate name kind value) = FitsValue value
+IsEventInRange (Labelled ticket label) = ⊤
 
 -- so of each event
 abbrev pub AreEventsInRange : List Event → Type 0

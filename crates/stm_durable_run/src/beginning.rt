@@ -1,8 +1,8 @@
 //! A new file for a console that makes a checkpoint.
 
 ghost use Rattle.std.specs.Prelude.{◌≡◌, Some, true, OnOk};
-ghost use Rattle.stm_machine.specs.Checkpoints.{MayStart, checkpoint_of};
-ghost use Rattle.stm_desk.specs.DeskView.{state_of};
+ghost use Rattle.stm_machine.specs.Checkpoints.{MayStart};
+ghost use Rattle.stm_desk.specs.DeskView.{checkpoint_now};
 ghost use Rattle.stm_journal.specs.Replacing.{OnRefused, journal_result};
 ghost use Rattle.stm_run.specs.declared.console.Console.TheVariants.{Open as IsOpen};
 ghost use Rattle.stm_run.specs.ConsoleState.{present_desk, is_open, table_of, with_checkpoint};
@@ -28,7 +28,7 @@ fn begin_desk_anew<D: Replace + Drop>(
     file: &mut HistoryFile<D>,
 ) -> Result<(), ReplaceError>
     requires may { MayBeginAnew (KeepsConsole D.disk file.old) (with_checkpoint (IsOpen desk.now)) }
-    requires taken { checkpoint.now ≡ checkpoint_of (state_of desk.now.desk) }
+    requires taken { checkpoint.now ≡ checkpoint_now desk.now.desk }
     requires start { MayStart desk.now.desk.table (Some checkpoint.now) }
     ensures kept { OnOk result (KeepsConsole D.disk file.new (with_checkpoint (IsOpen desk.now))) }
     ensures may_begin { OnOk result (MayBeginRun (with_checkpoint (IsOpen desk.now))) }
@@ -55,7 +55,7 @@ pub(crate) fn begin_file_anew<D: Replace + Drop>(
 ) -> Result<(), ReplaceError>
     requires open { is_open console.now ≡ true }
     requires may { MayBeginAnew (KeepsConsole D.disk file.old) (with_checkpoint console.now) }
-    requires taken { checkpoint.now ≡ checkpoint_of (state_of (present_desk console.now).desk) }
+    requires taken { checkpoint.now ≡ checkpoint_now (present_desk console.now).desk }
     requires start { MayStart (table_of console.now) (Some checkpoint.now) }
     ensures kept { OnOk result (KeepsConsole D.disk file.new (with_checkpoint console.now)) }
     ensures may_begin { OnOk result (MayBeginRun (with_checkpoint console.now)) }

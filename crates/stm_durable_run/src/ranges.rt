@@ -54,6 +54,7 @@ fn event_in_range(event: &Event)
         What::Finished { verdict, .. } => verdict_in_range(verdict),
         What::Cancelled { .. } => {}
         What::Declared { value, .. } => value_in_range(*value),
+        What::Labelled { .. } => {}
     }
 }
 

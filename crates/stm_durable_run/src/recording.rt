@@ -4,14 +4,14 @@ ghost use Rattle.std.specs.Prelude.{◌≡◌, ◌⊎◌, ◌++◌, ◌<◌, ◌
 ghost use Rattle.stm_event_lines.specs.Lines.{declaring_format};
 ghost use Rattle.stm_events.specs.SlowDesk.{Slow};
 ghost use Rattle.stm_history.specs.HistoryText.{history_text};
-ghost use Rattle.stm_history.specs.Starts.{declares, format_for};
+ghost use Rattle.stm_history.specs.Starts.{format_for};
 ghost use Rattle.stm_journal.specs.Disk.{LeavesOnly};
 ghost use Rattle.stm_durable.specs.Durable.{FitLines, KeepsAny, KeepsSome, KeepsHistory, KeepsEach, Records, LeavesHistory, LeavesOldOrAll};
 ghost use Rattle.stm_run.specs.declared.console.Console.TheVariants.{Open as IsOpen};
 ghost use Rattle.stm_run.specs.ConsoleState.{events_of};
 ghost use Rattle.stm_durable_run.specs.DurableRun.{RecordsUnlessDisk, KeepsConsole, start_in};
 ghost use Rattle.stm_durable_run.specs.Committing.{LeavesBatches, LeavesBatchOf, LeavesBatchesOf, CommitLeaves, MayCommit};
-ghost use Rattle.stm_durable_run.specs.NewEvents.{MayBeginRun};
+ghost use Rattle.stm_durable_run.specs.NewEvents.{MayBeginRun, needs_declaring_format};
 
 use crate::laws::last_events_fit;
 use crate::ranges::are_in_range;
@@ -178,9 +178,9 @@ fn later_events(history: &[Event], recorded: usize) -> &[Event]
     &history[recorded..]
 }
 
-/// Whether the file can't have these events in its format: one declares a variable.
+/// Whether the file can't have these events in its format: one declares a variable or labels a block.
 fn needs_another_format<D: Device>(file: &HistoryFile<D>, events: &[Event]) -> bool
-    ensures no { result ≡ false → (file.now.format ≡ declaring_format) ⊎ (declares events.now ≡ false) }
+    ensures no { result ≡ false → (file.now.format ≡ declaring_format) ⊎ (needs_declaring_format events.now ≡ false) }
 {
     file.format != DECLARING_FORMAT && format_for(None, events) == DECLARING_FORMAT
 }
@@ -197,7 +197,7 @@ fn recording_format<D: Device>(desk: &OpenDesk, file: &HistoryFile<D>) -> u32
     }
 }
 
-/// Writes the whole history of a desk, in the format in which variables are declared, to a new file that takes the place of the old
+/// Writes the whole history of a desk, in the format of late declarations and labels, to a new file that takes the place of the old
 /// one. How many events it has.
 #[tactic(auto, using(stm_journal::proofs::Faults::may_fail))]
 fn record_anew<D: Replace + Drop>(
@@ -228,8 +228,8 @@ fn record_anew<D: Replace + Drop>(
     }
 }
 
-/// Records the events of an open desk that its file doesn't have. How many it then has. If one declares a variable and the file is in
-/// a format in which none can, the whole history is written to a new file.
+/// Records the events of an open desk that its file doesn't have. How many it then has. If one declares a variable or labels a block
+/// and the file is in a format in which none can, the whole history is written to a new file.
 fn record_open<D: Replace + Drop>(
     alloc: Global,
     desk: &OpenDesk,

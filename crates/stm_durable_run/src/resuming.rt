@@ -10,7 +10,7 @@ ghost use Rattle.stm_durable_run.specs.DurableRun.{resumed_console};
 
 use std::alloc::Global;
 use stm_desk::Desk;
-use stm_history::Loaded;
+use stm_history::{Loaded, labels_after_history};
 use stm_run::console::Console;
 use stm_run::limit::EventLimit;
 use stm_store::Seed;
@@ -27,7 +27,8 @@ fn resumed(alloc: Global, loaded: Loaded, limit: u32) -> Result<Console, NoMemor
     ensures { IfOk result (λ c. c ≡ resumed_console limit (Some loaded)) }
 {
     let (table, checkpoint, events, machine) = loaded.into_parts();
-    match Desk::resume(table, checkpoint, events, machine, limit) {
+    let labels = labels_after_history(alloc, checkpoint.as_ref(), events.as_slice())?;
+    match Desk::resume(table, checkpoint, events, machine, labels, limit) {
         Ok(desk) => {
             // The queue is known to rise by this.
             let _history = desk.history();

@@ -13,8 +13,8 @@ ghost use Rattle.stm_lines.specs.LineClass.{line_class};
 ghost use Rattle.stm_run.specs.declared.console.Console.{Console as AnyConsole};
 ghost use Rattle.stm_run.specs.Abstraction.{IsStep};
 ghost use Rattle.stm_run.specs.Console.{step};
-ghost use Rattle.stm_machine.specs.Checkpoints.{MayStart, checkpoint_of};
-ghost use Rattle.stm_desk.specs.DeskView.{state_of};
+ghost use Rattle.stm_machine.specs.Checkpoints.{MayStart};
+ghost use Rattle.stm_desk.specs.DeskView.{checkpoint_now};
 ghost use Rattle.stm_commands.specs.Checkpointing.{are_tickets_full};
 ghost use Rattle.stm_run.specs.declared.console.Console.TheVariants.{Open as IsOpen};
 ghost use Rattle.stm_run.specs.ConsoleState.{present_desk, is_open, table_of, events_of, with_checkpoint};
@@ -323,7 +323,7 @@ impl DurableSession {
     ) -> Result<Tried, DurableFault>
         requires open { is_open self.old.console ≡ true }
         requires may { MayBeginAnew (KeepsConsole D.disk file.old) (with_checkpoint self.old.console) }
-        requires taken { checkpoint ≡ checkpoint_of (state_of (present_desk self.old.console).desk) }
+        requires taken { checkpoint ≡ checkpoint_now (present_desk self.old.console).desk }
         requires start { MayStart (table_of self.old.console) (Some checkpoint) }
         requires room { are_tickets_full (present_desk self.old.console) ≡ false }
         ensures tried { IfOk result (HasTriedCheckpoint D.disk file.old file.new self.old.console self.new.console

@@ -1,8 +1,8 @@
 use Rattle.std.proofs.Common.{◌≡◌, ◌⊎◌, true, false, drop, refl}
 use Rattle.stm_event_lines.specs.Lines.{declaring_format}
-use Rattle.stm_history.specs.Starts.{declares}
 use Rattle.stm_journal.proofs.Moments.{weaker}
 use Rattle.stm_run.specs.declared.console.Console.TheVariants.{Open}
+use Rattle.stm_durable_run.specs.NewEvents.{needs_declaring_format}
 use Rattle.stm_durable_run.proofs.RecordedEvents.{between, new_fit, still_begins, open_format, open_kept, anew_run}
 use Rattle.stm_durable_run.proofs.recording.record_open.Goals as goal
 use Rattle.stm_durable_run.proofs.recording.record_open.Goals.{else-file-via-then-file+else-needs_another_format, else-file-via-else-file}
@@ -22,7 +22,7 @@ record_from-requires-clause-fit g c =
     let m = c.requires in
     let h = c.history-history.ensures in
     let range = rw (c.later_events-later.ensures, h.history) at c.are_in_range.ensures in
-    let more : f.begun ≡ true → (f.format ≡ declaring_format) ⊎ (declares (drop c.args.recorded c.args.desk.now.desk.history) ≡ false) =
+    let more : f.begun ≡ true → (f.format ≡ declaring_format) ⊎ (needs_declaring_format (drop c.args.recorded c.args.desk.now.desk.history) ≡ false) =
     elim c.else-file.branch [
       | else-file-via-then-file+else-needs_another_format w ↦ λ e. rw (c.later_events-later.ensures, h.history) at (w.needs_another_format.ensures.no w.if-needs_another_format.false)
       | else-file-via-else-file w ↦ λ e. absurd (cc (e, w.if-file.false))
@@ -35,7 +35,7 @@ returns-clause-recorded g c =
     let f = c.args.file.now in
     let m = c.requires in
     let h = c.history-history.ensures in
-    let more : f.begun ≡ true → (f.format ≡ declaring_format) ⊎ (declares (drop c.args.recorded c.args.desk.now.desk.history) ≡ false) =
+    let more : f.begun ≡ true → (f.format ≡ declaring_format) ⊎ (needs_declaring_format (drop c.args.recorded c.args.desk.now.desk.history) ≡ false) =
     elim c.else-file.branch [
       | else-file-via-then-file+else-needs_another_format w ↦ λ e. rw (c.later_events-later.ensures, h.history) at (w.needs_another_format.ensures.no w.if-needs_another_format.false)
       | else-file-via-else-file w ↦ λ e. absurd (cc (e, w.if-file.false))
@@ -48,7 +48,7 @@ returns-clause-any_moment g c = λ honest m.
     let D = g.D.Device.disk in
     let f = c.args.file.now in
     let h = c.history-history.ensures in
-    let more : f.begun ≡ true → (f.format ≡ declaring_format) ⊎ (declares (drop c.args.recorded c.args.desk.now.desk.history) ≡ false) =
+    let more : f.begun ≡ true → (f.format ≡ declaring_format) ⊎ (needs_declaring_format (drop c.args.recorded c.args.desk.now.desk.history) ≡ false) =
     elim c.else-file.branch [
       | else-file-via-then-file+else-needs_another_format w ↦ λ e. rw (c.later_events-later.ensures, h.history) at (w.needs_another_format.ensures.no w.if-needs_another_format.false)
       | else-file-via-else-file w ↦ λ e. absurd (cc (e, w.if-file.false))
