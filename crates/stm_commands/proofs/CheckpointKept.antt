@@ -9,7 +9,8 @@ use Rattle.stm_check.specs.TypedBlock.{Block}
 use Rattle.stm_events.specs.SlowDesk.{Slow, Waiter, find_waiter}
 use Rattle.stm_events.specs.States.{IsTicketOf, IsLegalFrom}
 use Rattle.stm_machine.specs.Checkpoints.{waiter_of, checkpoint_state, checkpoint_of, block_of_waiter, MayStart}
-use Rattle.stm_desk.specs.DeskView.{DeskView, start_state, state_of, checkpointed}
+use Rattle.stm_machine.proofs.CheckpointLabels.{same_state}
+use Rattle.stm_desk.specs.DeskView.{DeskView, start_state, state_of, labels_of, checkpointed}
 use Rattle.stm_commands.specs.declared.jobs.KeptJob.{KeptJob}
 use Rattle.stm_commands.specs.OpenDesk.{HandedOut}
 use Rattle.stm_commands.specs.OpenInvariant.{job_kept, HaveStores, JobsStand, IsPresentCopy, NamesFollow, OpenInvariant}
@@ -62,13 +63,26 @@ ticket_again s b t k = record {
   waits = λ w e. let x = waits_again s t w e in x.block ∙ k.waits x.before x.found;
 }
 
+-- the labels of its blocks are no part of the state
+now_again : (d : DeskView) → checkpoint_state (checkpoint_of (state_of d)) ≡ state_of (checkpointed d)
+now_again d = sym (same_state (labels_of d) (checkpoint_of (state_of d)))
+
 stand_again : (d : DeskView) (js : List HandedOut) → JobsStand d js → JobsStand (checkpointed d) js
 stand_again d [] s = tt
-stand_again d (j ∷ js) s = (record { covered = s.0.covered; ticket = ticket_again (state_of d) j.block j.ticket s.0.ticket }, stand_again d js s.1)
+stand_again d (j ∷ js) s = (
+  record {
+    covered = s.0.covered;
+    ticket = subst (λ (s : Slow). IsTicketOf j.block s j.ticket) (now_again d) (ticket_again (state_of d) j.block j.ticket s.0.ticket);
+  },
+  stand_again d js s.1,
+)
 
 stored_again : (d : DeskView) (ks : List KeptJob) → HaveStores (state_of d).waiters ks → HaveStores (state_of (checkpointed d)).waiters ks
 stored_again d [] h = tt
-stored_again d (k ∷ ks) h = (λ w e. let x = waits_again (state_of d) k.ticket w e in h.0 x.before x.found, stored_again d ks h.1)
+stored_again d (k ∷ ks) h = (
+  λ w e. let x = waits_again (state_of d) k.ticket w (ap (λ (s : Slow). find_waiter k.ticket s.waiters) (now_again d) ∙ e) in h.0 x.before x.found,
+  stored_again d ks h.1,
+)
 
 copied_again : (d : DeskView) (copy : Option (List (Ty × Value))) → IsPresentCopy d copy → IsPresentCopy (checkpointed d) copy
 unfolding checkpoint_of

@@ -14,9 +14,11 @@ use Rattle.stm_events.specs.declared.errors.LateDeclareError.{LateDeclareError}
 use Rattle.stm_events.specs.declared.errors.LateDeclareError.TheVariants as late
 use Rattle.stm_events.specs.declared.errors.CancelError.{CancelError}
 use Rattle.stm_events.specs.declared.errors.CancelError.TheVariants as cancel
+use Rattle.stm_events.specs.declared.errors.LabelError.{LabelError}
+use Rattle.stm_events.specs.declared.errors.LabelError.TheVariants as label
 use Rattle.stm_events.specs.declared.errors.FinishError.{FinishError}
 use Rattle.stm_events.specs.declared.errors.FinishError.TheVariants as finish
-use Rattle.stm_events.specs.declared.event.What.TheVariants.{Submitted, Finished, Cancelled, Declared as DeclaredLate}
+use Rattle.stm_events.specs.declared.event.What.TheVariants.{Submitted, Finished, Cancelled, Declared as DeclaredLate, Labelled}
 use Rattle.stm_events.specs.declared.staleness.StalenessRule.{StalenessRule}
 use Rattle.stm_events.specs.SlowDesk.{find_waiter, without_waiter, stale_after, waking}
 use Rattle.stm_events.specs.SlowSettle.{Order, finishes}
@@ -28,7 +30,7 @@ use Rattle.stm_events.specs.SlowAtomically.{atomically}
 use Rattle.stm_desk.specs.declared.atomic.Ran.{Ran}
 use Rattle.stm_desk.specs.declared.errors.AtomicError.{AtomicError}
 use Rattle.stm_desk.specs.declared.errors.AtomicError.TheVariants as atomic
-use Rattle.stm_desk.specs.Refusals.{submit_refusal, late_declare_refusal, atomic_refusal, cancel_refusal, finish_refusal}
+use Rattle.stm_desk.specs.Refusals.{submit_refusal, late_declare_refusal, atomic_refusal, cancel_refusal, label_refusal, finish_refusal}
 use Rattle.stm_desk.proofs.Calls.{accepted}
 use Rattle.stm_desk.proofs.Starts.{start_rule}
 use Rattle.stm_desk.specs.declared.finish.Finish.{Finish}
@@ -45,9 +47,10 @@ use Rattle.stm_blocks.specs.DeclaredVariable.{late_variable_of}
 use Rattle.stm_commands.specs.declared.evaluation.Progress.{Progress}
 use Rattle.stm_commands.specs.Evaluation.{DeliveredSoFar, evaluated, evaluation_text, eval_desk_step}
 use Rattle.stm_commands.specs.Jobs.{max_jobs, jobs_of, taken, jobs_line, with_jobs, take_jobs_step, delivery_refusal, delivery_step, deliver_job_step, queued_line, handed_back, handback_ticket_step}
+use Rattle.stm_commands.specs.Labelling.{labelled_line, label_ticket_step}
 use Rattle.stm_commands.specs.OpenDesk.{HandedOut, OpenDesk, on_desk, known, Steps}
 use Rattle.stm_commands.specs.OpenInvariant.{delivered_so_far}
-use Rattle.stm_commands.specs.Refusals.{refused, late_declare_error_text, submit_error_text, atomic_error_text, finish_error_text, cancel_error_text}
+use Rattle.stm_commands.specs.Refusals.{refused, late_declare_error_text, submit_error_text, atomic_error_text, label_error_text, finish_error_text, cancel_error_text}
 use Rattle.stm_commands.proofs.EvaluatedHere.{marked_queued}
 
 abbrev opened_as : List HandedOut → DeskView → OpenDesk
@@ -145,6 +148,21 @@ pub cancel_err : {A E : Type 0} → (d e : DeskView) (js : List HandedOut) (t : 
 cancel_err d e js t x old new (Ok y) p n m h =
     subst (λ (o : Option CancelError). Steps (opened_as js e) old new (on_desk (opened_as js d) (cancel_ticket_step d t o))) (sym (refusal_is (Unit {0}) cancel.NoMemory (cancel_refusal d t) x n m)) (ap (opened_as js) p, h)
 cancel_err d e js t x old new (Err y) p n m h = tt
+
+-- ---- label
+pub label_ok : {A E : Type 0} → (d e : DeskView) (js : List HandedOut) (t : ℕ) (text old new : List ℕ) (r : Result A E) → e ≡ with_event d 0 (Labelled t text) → RefusedAs {A = Unit {0}} label.NoMemory (label_refusal d t) (Ok tt)
+    → OnOk r (new ≡ old ++ labelled_line t text) → OnOk r (Steps (opened_as js e) old new (on_desk (opened_as js d) (label_ticket_step d t text (label_refusal d t))))
+label_ok d e js t text old new (Ok x) p n h =
+    subst (λ (o : Option LabelError). Steps (opened_as js e) old new (on_desk (opened_as js d) (label_ticket_step d t text o))) (sym (accepted {A = Unit {0}} label.NoMemory (label_refusal d t) tt n))
+    (ap (opened_as js) p, h)
+label_ok d e js t text old new (Err x) p n h = tt
+
+pub label_err : {A E : Type 0} → (d e : DeskView) (js : List HandedOut) (t : ℕ) (text : List ℕ) (x : LabelError) (old new : List ℕ) (r : Result A E) → e ≡ d → RefusedAs {A = Unit {0}} label.NoMemory (label_refusal d t) (Err x)
+    → OnOk r (x ≢ label.NoMemory) → OnOk r (new ≡ old ++ label_error_text x)
+    → OnOk r (Steps (opened_as js e) old new (on_desk (opened_as js d) (label_ticket_step d t text (label_refusal d t))))
+label_err d e js t text x old new (Ok y) p n m h =
+    subst (λ (o : Option LabelError). Steps (opened_as js e) old new (on_desk (opened_as js d) (label_ticket_step d t text o))) (sym (refusal_is (Unit {0}) label.NoMemory (label_refusal d t) x n m)) (ap (opened_as js) p, h)
+label_err d e js t text x old new (Err y) p n m h = tt
 
 -- ---- finish
 -- the step of a finish that is planned

@@ -4,7 +4,7 @@ use Rattle.std.specs.Prelude.{nat_eq, option_map}
 use Rattle.std.proofs.lemmas.Bool.Decides.{nat_tests}
 use Rattle.stm_events.specs.declared.event.Event.{Event}
 use Rattle.stm_events.specs.declared.event.What.{What}
-use Rattle.stm_events.specs.declared.event.What.TheVariants.{Submitted, Installed, Finished, Cancelled, Declared as DeclaredLate}
+use Rattle.stm_events.specs.declared.event.What.TheVariants.{Submitted, Installed, Finished, Cancelled, Declared as DeclaredLate, Labelled}
 use Rattle.stm_events.specs.Laws.{AreRising}
 use Rattle.stm_events.specs.SlowDesk.{Waiter, Slow, waking, find_waiter, without_waiter, with_delivery, after_writes, after, Allows, state_from, LegalFrom}
 use Rattle.stm_events.proofs.Rising.{rising_after, waiter_without, waiter_delivered, waiter_marks, waiter_push}
@@ -21,6 +21,7 @@ given_after t s (Installed u v) a k = record { rising = rising_after s (Installe
 given_after t s (Finished u v n l) a k = record { rising = rising_after s (Finished u v n l) (let g = k.given in omega arith) k.rising a; given = k.given }
 given_after t s (Cancelled u) a k = record { rising = rising_after s (Cancelled u) (let g = k.given in omega arith) k.rising a; given = k.given }
 given_after t s (DeclaredLate name kind value) a k = record { rising = k.rising; given = k.given }
+given_after t s (Labelled u label) a k = k
 
 -- ---- it waits no more
 unlike : (t u n : ℕ) → t < n → u ≡ n → nat_eq t u ≡ false
@@ -53,6 +54,7 @@ gone_after t s (Finished u v n l) a k g =
     (waiter_without u t s.next 0 s.waiters k.rising ∙ none_without (nat_eq t u) (find_waiter t s.waiters) g)
 gone_after t s (Cancelled u) a k g = waiter_without u t s.next 0 s.waiters k.rising ∙ none_without (nat_eq t u) (find_waiter t s.waiters) g
 gone_after t s (DeclaredLate name kind value) a k g = g
+gone_after t s (Labelled u label) a k g = g
 
 -- once a ticket was given and waits no more, it doesn't wait after any more events
 pub gone_from : (t : ℕ) (s : Slow) (es : List Event) → LegalFrom s es → IsGiven t s → find_waiter t s.waiters ≡ None → find_waiter t (state_from s es).waiters ≡ None

@@ -9,11 +9,12 @@ use Rattle.stm_check.specs.TypedBlock.{Block}
 use Rattle.stm_eval.specs.declared.job.Job.{Job}
 use Rattle.stm_events.specs.declared.errors.CancelError.{CancelError}
 use Rattle.stm_events.specs.declared.errors.FinishError.{FinishError}
+use Rattle.stm_events.specs.declared.errors.LabelError.{LabelError}
 use Rattle.stm_events.specs.declared.errors.LateDeclareError.{LateDeclareError}
 use Rattle.stm_events.specs.declared.errors.SubmitError.{SubmitError}
 use Rattle.stm_events.specs.declared.event.Event.{Event}
 use Rattle.stm_events.specs.declared.event.What.{What}
-use Rattle.stm_events.specs.declared.event.What.TheVariants.{Submitted, Cancelled, Declared as DeclaredLate}
+use Rattle.stm_events.specs.declared.event.What.TheVariants.{Submitted, Cancelled, Declared as DeclaredLate, Labelled}
 use Rattle.stm_machine.specs.JobsHandedOut.{block_at, AreJobs, AreJobsCovered}
 use Rattle.stm_machine.specs.Machine.{event}
 use Rattle.stm_machine.specs.Checkpoints.{MayStart}
@@ -44,12 +45,15 @@ use Rattle.stm_commands.proofs.LegalDesks.{grown_state, grown_legal, grown_possi
 pub now_next : (d : DeskView) (client : ℕ) (w : What) → state_of (with_event d client w) ≡ after (state_of d) w
 now_next d client w = state-append (start_state d) d.history (event client w ∷ [])
 
--- submissions and cancellations leave the store as it is
+-- submissions, cancellations and labels leave the store as it is
 pub submitted_store : (d : DeskView) (client t : ℕ) (b : Block) → (state_of (with_event d client (Submitted t b))).store ≡ (state_of d).store
 submitted_store d client t b = ap (λ s. s.store) (now_next d client (Submitted t b))
 
 pub cancelled_store : (d : DeskView) (client t : ℕ) → (state_of (with_event d client (Cancelled t))).store ≡ (state_of d).store
 cancelled_store d client t = ap (λ s. s.store) (now_next d client (Cancelled t))
+
+labelled_store : (d : DeskView) (client t : ℕ) (label : List ℕ) → (state_of (with_event d client (Labelled t label))).store ≡ (state_of d).store
+labelled_store d client t label = ap (λ s. s.store) (now_next d client (Labelled t label))
 
 pub grown_same : (d e : DeskView) → e ≡ d → MayStart e.table e.checkpoint → IsLegalFrom (start_state e) e.history → HasGrown d e
 grown_same d e p start legal = record { table = ap (λ s. s.table) p; checkpoint = ap (λ s. s.checkpoint) p; limit = ap (λ s. s.limit) p; more = []; history = ap (λ s. s.history) p ∙ sym (append-nil d.history); start = start; legal = legal }
@@ -250,6 +254,15 @@ cancelled_grown d e t (Err x) p q start legal = (grown_same d e q start legal, a
 pub kept_cancelled : {known : List Named} → (d e : DeskView) (copy : Option (List (Ty × Value))) (ks : List KeptJob) (t : ℕ) (r : Result (Unit {0}) CancelError) → OnOk r (e ≡ with_event d 0 (Cancelled t)) → OnErr r (e ≡ d)
     → MayStart e.table e.checkpoint → IsLegalFrom (start_state e) e.history → OpenInvariant d copy ks known → OpenInvariant e copy ks known
 kept_cancelled d e copy ks t r p q start legal k = let g = cancelled_grown d e t r p q start legal in kept_grown d e copy ks g.0 g.1 k
+
+labelled_grown : (d e : DeskView) (t : ℕ) (label : List ℕ) (r : Result (Unit {0}) LabelError) → OnOk r (e ≡ with_event d 0 (Labelled t label)) → OnErr r (e ≡ d) → MayStart e.table e.checkpoint → IsLegalFrom (start_state e) e.history
+    → HasGrown d e × ((state_of e).store ≡ (state_of d).store)
+labelled_grown d e t label (Ok x) p q start legal = (grown_next d e 0 (Labelled t label) p start legal, ap (λ s. (state_of s).store) p ∙ labelled_store d 0 t label)
+labelled_grown d e t label (Err x) p q start legal = (grown_same d e q start legal, ap (λ s. (state_of s).store) q)
+
+pub kept_labelled : {known : List Named} → (d e : DeskView) (copy : Option (List (Ty × Value))) (ks : List KeptJob) (t : ℕ) (label : List ℕ) (r : Result (Unit {0}) LabelError) → OnOk r (e ≡ with_event d 0 (Labelled t label)) → OnErr r (e ≡ d)
+    → MayStart e.table e.checkpoint → IsLegalFrom (start_state e) e.history → OpenInvariant d copy ks known → OpenInvariant e copy ks known
+kept_labelled d e copy ks t label r p q start legal k = let g = labelled_grown d e t label r p q start legal in kept_grown d e copy ks g.0 g.1 k
 
 finished_grown : (d e : DeskView) (t : ℕ) (r : Result Finish FinishError) → IfOk r (λ f. e ≡ with_event d 0 (finish_of t f)) → OnErr r (e ≡ d) → MayStart e.table e.checkpoint → IsLegalFrom (start_state e) e.history → HasGrown d e
 finished_grown d e t (Ok f) p q start legal = grown_next d e 0 (finish_of t f) p start legal

@@ -15,7 +15,7 @@ use Rattle.stm_queue.proofs.SortedInsertion.{absent_above}
 use Rattle.stm_events.specs.declared.errors.DeliverError.{DeliverError}
 use Rattle.stm_events.specs.declared.errors.DeliverError.TheVariants as deliver
 use Rattle.stm_events.specs.declared.event.What.{What}
-use Rattle.stm_events.specs.declared.event.What.TheVariants.{Submitted, Installed, Finished, Cancelled, Declared as DeclaredLate}
+use Rattle.stm_events.specs.declared.event.What.TheVariants.{Submitted, Installed, Finished, Cancelled, Declared as DeclaredLate, Labelled}
 use Rattle.stm_machine.specs.JobsHandedOut.{sent}
 use Rattle.stm_events.specs.Laws.{AreRising}
 use Rattle.stm_machine.specs.QueueAndIndex.{AreQueued, due_of, with_tickets}
@@ -183,3 +183,4 @@ kept_event s (Cancelled t) es r a k = record {
   right = λ u. has_without u t es ∙ queue_gone (nat_eq u t) (has_ticket u es) (find_waiter u s.waiters) (k.right u) ∙ sym (ap due_of (waiter_without t u s.next 0 s.waiters r));
 }
 kept_event s (DeclaredLate name kind value) es r a k = k
+kept_event s (Labelled t label) es r a k = k

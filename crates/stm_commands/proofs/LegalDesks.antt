@@ -4,7 +4,7 @@ use Rattle.stm_store.specs.Naming.{Named}
 use Rattle.stm_store.specs.Tables.{Declared}
 use Rattle.stm_events.specs.declared.event.Event.{Event}
 use Rattle.stm_events.specs.declared.event.What.{What}
-use Rattle.stm_events.specs.declared.event.What.TheVariants.{Submitted, Installed, Finished, Cancelled, Declared as DeclaredLate}
+use Rattle.stm_events.specs.declared.event.What.TheVariants.{Submitted, Installed, Finished, Cancelled, Declared as DeclaredLate, Labelled}
 use Rattle.stm_events.specs.SlowDesk.{Slow, LegalFrom, after, state_from}
 use Rattle.stm_events.specs.States.{IsPossible, IsLegalFrom}
 use Rattle.stm_events.proofs.Folds.{state-append}
@@ -61,6 +61,7 @@ names_after s (Installed t v) = same_names s.names
 names_after s (Finished t v n stale) = same_names s.names
 names_after s (Cancelled t) = same_names s.names
 names_after s (DeclaredLate name kind value) = record { later = _; are = refl }
+names_after s (Labelled t label) = same_names s.names
 
 names_from : (s : Slow) (es : List Event) → NamesFollow s.names (state_from s es).names
 names_from s [] = same_names s.names

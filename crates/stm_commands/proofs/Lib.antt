@@ -8,6 +8,7 @@ pub mod GoneTickets
 pub mod Growing
 pub mod KeptQueue
 pub mod KeptStores
+pub mod LabelTexts
 pub mod LaterEvents
 pub mod LegalDesks
 pub mod OutTickets

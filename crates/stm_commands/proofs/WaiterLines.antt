@@ -2,11 +2,9 @@
 use Rattle.std.proofs.Common.{◌≡◌, ℕ, suc, ◌<◌, ◌≤◌, Bool, true, false, cond, List, [], ◌∷◌, ◌++◌, Option, Some, None, refl, sym, ap, ◌∙◌, subst, arith, append_assoc, append-nil}
 use Rattle.std.specs.Prelude.{nat_lt, nat_eq, filter, length, option_map}
 use Rattle.std.proofs.lemmas.Bool.Decides.{nat_tests}
-use Rattle.stm_store.specs.declared.cell.Cell.{Cell}
 use Rattle.stm_events.specs.Laws.{AreRising}
 use Rattle.stm_events.specs.SlowDesk.{Waiter, find_waiter}
 use Rattle.stm_events.specs.SlowSettle.{lowest}
-use Rattle.stm_commands.specs.Contents.{waiter_line, waiter_lines}
 
 -- those whose tickets are above this number
 abbrev pub above : ℕ → List Waiter → List Waiter
@@ -91,16 +89,17 @@ no_ticket (Some w) e = absurd cc
 no_ticket None e = refl
 
 -- the line of the next ticket joins the text
-pub one_more : (n m t : ℕ) (cells : List Cell) (ws : List Waiter) (text line all : List ℕ) → AreRising n 0 ws → Some t ≡ option_map (λ (w : Waiter). w.ticket) (lowest (λ (w : Waiter). nat_lt m w.ticket) ws)
-    → ((w : Waiter) → find_waiter t ws ≡ Some w → w.ticket ≡ t → line ≡ text ++ waiter_line cells w)
-    → text ++ waiter_lines cells (above m ws) ≡ all → line ++ waiter_lines cells (above t ws) ≡ all
-one_more n m t cells ws text line all r e l h =
+pub one_more : (lines : List Waiter → List ℕ) (line_of : Waiter → List ℕ) (n m t : ℕ) (ws : List Waiter) (text line all : List ℕ) → ((w : Waiter) (rest : List Waiter) → lines (w ∷ rest) ≡ line_of w ++ lines rest)
+    → AreRising n 0 ws → Some t ≡ option_map (λ (w : Waiter). w.ticket) (lowest (λ (w : Waiter). nat_lt m w.ticket) ws)
+    → ((w : Waiter) → find_waiter t ws ≡ Some w → w.ticket ≡ t → line ≡ text ++ line_of w) → text ++ lines (above m ws) ≡ all → line ++ lines (above t ws) ≡ all
+one_more lines line_of n m t ws text line all cons r e l h =
     let s = some_ticket _ t e in
     let i = next_of n 0 m s.0 ws r s.1 in
-    ap (λ (x : List ℕ). x ++ waiter_lines cells (above t ws)) (l s.0 (ap (λ (u : ℕ). find_waiter u ws) (sym s.2) ∙ i.found) s.2)
-    ∙ append_assoc text (waiter_line cells s.0) (waiter_lines cells (above t ws))
-    ∙ ap (λ (u : ℕ). text ++ (waiter_line cells s.0 ++ waiter_lines cells (above u ws))) (sym s.2)
-    ∙ ap (λ (xs : List Waiter). text ++ waiter_lines cells xs) (sym i.first) ∙ h
+    ap (λ (x : List ℕ). x ++ lines (above t ws)) (l s.0 (ap (λ (u : ℕ). find_waiter u ws) (sym s.2) ∙ i.found) s.2)
+    ∙ append_assoc text (line_of s.0) (lines (above t ws))
+    ∙ ap (λ (u : ℕ). text ++ (line_of s.0 ++ lines (above u ws))) (sym s.2)
+    ∙ ap (λ (x : List ℕ). text ++ x) (sym (cons s.0 (above s.0.ticket ws)))
+    ∙ ap (λ (xs : List Waiter). text ++ lines xs) (sym i.first) ∙ h
 
 -- and fewer are left
 pub fewer : (n m t : ℕ) (ws : List Waiter) → AreRising n 0 ws → Some t ≡ option_map (λ (w : Waiter). w.ticket) (lowest (λ (w : Waiter). nat_lt m w.ticket) ws) → length (above t ws) < length (above m ws)
@@ -110,7 +109,7 @@ fewer n m t ws r e =
     let p : length (above m ws) ≡ suc (length (above t ws)) = ap (λ (xs : List Waiter). length xs) i.first ∙ ap (λ (u : ℕ). suc (length (above u ws))) s.2 in
     omega (arith, p)
 
-pub no_more : (m : ℕ) (cells : List Cell) (ws : List Waiter) (text all : List ℕ) → None ≡ option_map (λ (w : Waiter). w.ticket) (lowest (λ (w : Waiter). nat_lt m w.ticket) ws)
-    → text ++ waiter_lines cells (above m ws) ≡ all → text ≡ all
-no_more m cells ws text all e h =
-    sym (append-nil text) ∙ sym (ap (λ (xs : List Waiter). text ++ waiter_lines cells xs) (none_above m ws (no_ticket _ e))) ∙ h
+pub no_more : (lines : List Waiter → List ℕ) (m : ℕ) (ws : List Waiter) (text all : List ℕ) → lines [] ≡ [] → None ≡ option_map (λ (w : Waiter). w.ticket) (lowest (λ (w : Waiter). nat_lt m w.ticket) ws)
+    → text ++ lines (above m ws) ≡ all → text ≡ all
+no_more lines m ws text all none e h =
+    sym (append-nil text) ∙ ap (λ (x : List ℕ). text ++ x) (sym none) ∙ sym (ap (λ (xs : List Waiter). text ++ lines xs) (none_above m ws (no_ticket _ e))) ∙ h

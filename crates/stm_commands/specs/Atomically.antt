@@ -2,7 +2,7 @@
 use Rattle.std.specs.Prelude.{ℕ, List, [], ◌∷◌, ◌++◌, Option, Some, None, Result, Ok, Err, codes, decimal}
 use Rattle.stm_check.specs.TypedBlock.{Block}
 use Rattle.stm_events.specs.declared.event.What.{What}
-use Rattle.stm_events.specs.declared.event.What.TheVariants.{Submitted, Installed, Finished, Cancelled, Declared as DeclaredLate}
+use Rattle.stm_events.specs.declared.event.What.TheVariants.{Submitted, Installed, Finished, Cancelled, Declared as DeclaredLate, Labelled}
 use Rattle.stm_events.specs.SlowAtomically.{atomically}
 use Rattle.stm_desk.specs.declared.errors.AtomicError.{AtomicError}
 use Rattle.stm_desk.specs.DeskView.{DeskView, state_of}
@@ -25,6 +25,7 @@ last_line (Installed t v) = waits_line t
 last_line (Finished t v first_new stale) = finished_line t first_new v stale
 last_line (Cancelled t) = []
 last_line (DeclaredLate name kind value) = []
+last_line (Labelled t label) = []
 
 -- the same if these came after it
 abbrev pub line_of_last : What → List What → List ℕ

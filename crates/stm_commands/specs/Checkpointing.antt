@@ -19,13 +19,13 @@ unfoldable pub checkpoint_line : ℕ → List ℕ
 checkpoint_line n = codes "checkpoint " ++ decimal n ++ 10 ∷ []
 
 -- `checkpoint` without an argument
-abbrev pub checkpoint_now : OpenDesk → OpenDesk × List ℕ
-checkpoint_now d =
+abbrev pub bare_checkpoint_step : OpenDesk → OpenDesk × List ℕ
+bare_checkpoint_step d =
     if are_tickets_full d then (d, refused (codes "TicketsFull")) else (begun_anew d, checkpoint_line (length d.desk.history))
 
 -- `checkpoint`: the history begins from where the desk is
 unfoldable pub checkpoint_step : OpenDesk → List ℕ → OpenDesk × List ℕ
-checkpoint_step d argument = with_nothing (checkpoint_now d) (d, argument_refused) argument
+checkpoint_step d argument = with_nothing (bare_checkpoint_step d) (d, argument_refused) argument
 
 -- the command is not refused
 abbrev pub makes_checkpoint : OpenDesk → List ℕ → Bool

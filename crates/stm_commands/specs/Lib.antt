@@ -9,6 +9,7 @@ pub mod DueTickets
 pub mod Endings
 pub mod Evaluation
 pub mod Jobs
+pub mod Labelling
 pub mod OpenDesk
 pub mod Questions
 pub mod Refusals

@@ -10,6 +10,8 @@ use Rattle.stm_events.specs.declared.errors.SubmitError.{SubmitError}
 use Rattle.stm_events.specs.declared.errors.SubmitError.TheVariants as submit
 use Rattle.stm_events.specs.declared.errors.LateDeclareError.{LateDeclareError}
 use Rattle.stm_events.specs.declared.errors.LateDeclareError.TheVariants as late
+use Rattle.stm_events.specs.declared.errors.LabelError.{LabelError}
+use Rattle.stm_events.specs.declared.errors.LabelError.TheVariants as label
 use Rattle.stm_events.specs.declared.errors.DeliverError.{DeliverError}
 use Rattle.stm_events.specs.declared.errors.DeliverError.TheVariants as deliver
 use Rattle.stm_events.specs.declared.errors.FinishError.{FinishError}
@@ -67,6 +69,12 @@ late_declare_error_text late.TypeOfValue = refused (codes "TypeOfValue")
 late_declare_error_text late.HistoryFull = refused (codes "HistoryFull")
 late_declare_error_text late.CellsFull = refused (codes "CellsFull")
 late_declare_error_text late.NoMemory = []
+
+-- why a block doesn't get a label
+abbrev pub label_error_text : LabelError → List ℕ
+label_error_text label.NoTicket = refused (codes "NoTicket")
+label_error_text label.HistoryFull = refused (codes "HistoryFull")
+label_error_text label.NoMemory = []
 
 -- why a block isn't submitted
 abbrev pub submit_error_text : SubmitError → List ℕ

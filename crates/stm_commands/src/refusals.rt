@@ -3,13 +3,13 @@
 ghost use Rattle.std.specs.Prelude.{◌≡◌, ◌≢◌, ◌++◌, Some, string_bytes, OnOk};
 ghost use Rattle.stm_blocks.specs.OutOfMemory.{IsOutOfMemory};
 ghost use Rattle.stm_commands.specs.Arguments.{argument_refused};
-ghost use Rattle.stm_commands.specs.Refusals.{refused, refused_at, refused_variable, parse_fault_text, type_fault_text, declare_error_text, late_declare_error_text, submit_error_text, atomic_error_text, deliver_error_text, finish_error_text, cancel_error_text, refusal_text};
+ghost use Rattle.stm_commands.specs.Refusals.{refused, refused_at, refused_variable, parse_fault_text, type_fault_text, declare_error_text, late_declare_error_text, label_error_text, submit_error_text, atomic_error_text, deliver_error_text, finish_error_text, cancel_error_text, refusal_text};
 
 use std::alloc::AllocError;
 use stm_blocks::Refusal;
 use stm_check::TypeFault;
 use stm_desk::{
-    AtomicError, CancelError, DeliverError, FinishError, LateDeclareError, SubmitError,
+    AtomicError, CancelError, DeliverError, FinishError, LabelError, LateDeclareError, SubmitError,
 };
 use stm_parse::ParseFault;
 use stm_store::DeclareError;
@@ -121,6 +121,19 @@ pub fn refuse_late_declaration(error: LateDeclareError, out: &mut String) -> Res
         LateDeclareError::HistoryFull => refuse("HistoryFull", out),
         LateDeclareError::CellsFull => refuse("CellsFull", out),
         LateDeclareError::NoMemory => Err(AllocError),
+    }
+}
+
+/// Appends why a block doesn't get a label; an out-of-memory error is handed on.
+pub fn refuse_label(error: LabelError, out: &mut String) -> Result<(), NoMemory>
+    ensures text { OnOk result
+        (string_bytes out.new ≡ string_bytes out.old ++ label_error_text error) }
+    ensures memory { OnOk result (error ≢ LabelError.NoMemory) }
+{
+    match error {
+        LabelError::NoTicket => refuse("NoTicket", out),
+        LabelError::HistoryFull => refuse("HistoryFull", out),
+        LabelError::NoMemory => Err(AllocError),
     }
 }
 

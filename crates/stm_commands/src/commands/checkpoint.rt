@@ -1,9 +1,9 @@
 //! `checkpoint`: the history begins from where the desk is.
 
 ghost use Rattle.std.specs.Prelude.{◌≡◌, ◌++◌, Some, string_bytes, length, is_some, not, OnOk, IfOk, IfSome};
-ghost use Rattle.stm_machine.specs.Checkpoints.{MayStart, checkpoint_of};
-ghost use Rattle.stm_desk.specs.DeskView.{state_of};
-ghost use Rattle.stm_commands.specs.Checkpointing.{are_tickets_full, begun_anew, checkpoint_line, checkpoint_now};
+ghost use Rattle.stm_machine.specs.Checkpoints.{MayStart};
+ghost use Rattle.stm_desk.specs.DeskView.{checkpoint_now};
+ghost use Rattle.stm_commands.specs.Checkpointing.{are_tickets_full, begun_anew, checkpoint_line, bare_checkpoint_step};
 ghost use Rattle.stm_commands.specs.OpenDesk.{Steps};
 
 use crate::open_desk::OpenDesk;
@@ -24,7 +24,7 @@ impl OpenDesk {
     /// The checkpoint of the present state, from which the history can begin (`begin_from`); none if tickets could run out after it.
     pub fn next_checkpoint(&self) -> Result<Option<Checkpoint>, NoMemory>
         ensures made { IfOk result (λ o. is_some o ≡ not (are_tickets_full self.now)) }
-        ensures taken { IfOk result (λ o. IfSome o (λ c. c ≡ checkpoint_of (state_of self.now.desk))) }
+        ensures taken { IfOk result (λ o. IfSome o (λ c. c ≡ checkpoint_now self.now.desk)) }
         ensures start { IfOk result (λ o. IfSome o (λ c. MayStart self.now.desk.table (Some c))) }
     {
         match self.desk.next_checkpoint() {
@@ -36,7 +36,7 @@ impl OpenDesk {
 
     /// Lets the history begin from the checkpoint of the present state, and returns how many events it had.
     pub fn begin_from(&mut self, checkpoint: Checkpoint) -> u32
-        requires { checkpoint ≡ checkpoint_of (state_of self.old.desk) }
+        requires { checkpoint ≡ checkpoint_now self.old.desk }
         ensures count { result ≡ length self.old.desk.history }
         ensures begun { self.new ≡ begun_anew self.old }
     {
@@ -48,7 +48,7 @@ impl OpenDesk {
 
     /// Answers `checkpoint`, without an argument: how many events the history had before.
     pub fn answer_checkpoint(&mut self, out: &mut String) -> Result<(), NoMemory>
-        ensures { OnOk result (Steps self.new (string_bytes out.old) (string_bytes out.new) (checkpoint_now self.old)) }
+        ensures { OnOk result (Steps self.new (string_bytes out.old) (string_bytes out.new) (bare_checkpoint_step self.old)) }
     {
         match self.next_checkpoint()? {
             Some(checkpoint) => {

@@ -1,6 +1,8 @@
 //! The commands, each in a file of its own: `OpenDesk::answer_..` prints the answer, and makes the step.
 
 mod atomically;
+mod block;
+mod board;
 mod cancel;
 pub mod checkpoint;
 mod declare;
@@ -10,6 +12,7 @@ mod eval;
 mod events;
 mod finish;
 mod handback;
+mod label;
 mod reads;
 mod ready;
 mod settle;

@@ -13,7 +13,7 @@ use stm_terms::NoMemory;
 use stm_terms::text::{write_number, write_verdict};
 
 /// Appends how a block waits.
-fn write_status(status: Status<'_>, out: &mut String) -> Result<(), NoMemory>
+pub(crate) fn write_status(status: Status<'_>, out: &mut String) -> Result<(), NoMemory>
     ensures { OnOk result
         (string_bytes out.new ≡ string_bytes out.old ++ standing_text (shown status.entry)) }
 {
