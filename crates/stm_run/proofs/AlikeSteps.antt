@@ -21,13 +21,16 @@ use Rattle.stm_events.specs.declared.errors.DeliverError.{DeliverError}
 use Rattle.stm_events.specs.declared.errors.DeliverError.TheVariants as deliver
 use Rattle.stm_events.specs.declared.errors.FinishError.{FinishError}
 use Rattle.stm_events.specs.declared.errors.FinishError.TheVariants as finish
+use Rattle.stm_events.specs.declared.errors.LabelError.{LabelError}
+use Rattle.stm_events.specs.declared.errors.LabelError.TheVariants as label
 use Rattle.stm_events.specs.declared.errors.LateDeclareError.{LateDeclareError}
 use Rattle.stm_events.specs.declared.errors.LateDeclareError.TheVariants as late
 use Rattle.stm_events.specs.declared.errors.SubmitError.{SubmitError}
 use Rattle.stm_events.specs.declared.errors.SubmitError.TheVariants as submit
 use Rattle.stm_events.specs.declared.event.What.{What}
-use Rattle.stm_events.specs.declared.event.What.TheVariants.{Submitted, Installed, Finished, Cancelled, Declared as DeclaredLate}
+use Rattle.stm_events.specs.declared.event.What.TheVariants.{Submitted, Installed, Finished, Cancelled, Declared as DeclaredLate, Labelled}
 use Rattle.stm_events.specs.Answers.{AnswersAlike, install_answer}
+use Rattle.stm_events.specs.Labels.{is_label}
 use Rattle.stm_events.specs.SlowAtomically.{install_at_once, atomically}
 use Rattle.stm_events.specs.declared.staleness.StalenessRule.{StalenessRule}
 use Rattle.stm_events.specs.declared.staleness.StalenessRule.TheVariants.{Changed}
@@ -37,7 +40,7 @@ use Rattle.stm_desk.proofs.Starts.{start_rule}
 use Rattle.stm_desk.specs.declared.errors.AtomicError.{AtomicError}
 use Rattle.stm_desk.specs.declared.errors.AtomicError.TheVariants as atomic
 use Rattle.stm_events.specs.Laws.{IsWellTyped}
-use Rattle.stm_events.specs.Refusals.{missing, submit_first, submit_refused, declare_first, late_declare_refused, cancel_first, cancel_refused, differing, overtaken_first, install_first, pending_left, blocks_there, overflows, finish_first, finish_refused}
+use Rattle.stm_events.specs.Refusals.{missing, submit_first, submit_refused, declare_first, late_declare_refused, label_first, label_refused, cancel_first, cancel_refused, differing, overtaken_first, install_first, pending_left, blocks_there, overflows, finish_first, finish_refused}
 use Rattle.stm_events.specs.SlowDesk.{Waiter, Slow, under, verdict_on, waking, is_blocks, is_new, is_current, find_waiter, without_waiter, stale_after, max_cells, max_waiting, after, Allows, LegalFrom}
 use Rattle.stm_events.specs.SlowSettle.{Order, next_what, has_cells, settle_on, running, Stop, NoRoom, NoCells, stop_on, run_stop, finishes, installs}
 use Rattle.stm_events.specs.SlowDrain.{next_drain}
@@ -46,7 +49,7 @@ use Rattle.stm_events.proofs.Alike.{AreAlike, MayBeAlike, alike_without, same_st
 use Rattle.stm_events.proofs.Possible.{had_without, possible_after}
 use Rattle.stm_machine.specs.Machine.{event}
 use Rattle.stm_machine.specs.JobsHandedOut.{sent}
-use Rattle.stm_desk.specs.Refusals.{submit_refusal, late_declare_refusal, atomic_first, events_needed, atomic_refusal, finish_refusal, cancel_refusal, requeued_if_overtaken}
+use Rattle.stm_desk.specs.Refusals.{submit_refusal, late_declare_refusal, atomic_first, events_needed, atomic_refusal, finish_refusal, cancel_refusal, label_refusal, requeued_if_overtaken}
 use Rattle.stm_desk.specs.DeskView.{DeskView, start_state, state_of, is_full, lacks_room, with_event}
 use Rattle.stm_desk.specs.Settling.{slow_run, slow_run_stop, with_whats}
 use Rattle.stm_blocks.specs.declared.refusal.Refusal.{Refusal}
@@ -56,12 +59,13 @@ use Rattle.stm_commands.specs.Declaring.{declared_line, declare_variable_step, d
 use Rattle.stm_commands.specs.Endings.{finish_verdict_step, finish_waiter_step, finish_ticket_step, finished_line, cancel_ticket_step, run_text, run_desk_step}
 use Rattle.stm_commands.specs.Evaluation.{DeliveredSoFar, delivered_by, delivered_next, delivered_all, all_queued, evaluated, evaluation_text, eval_desk_step}
 use Rattle.stm_commands.specs.Jobs.{jobs_of, delivery_first, delivery_refusal, installed, delivery_step, deliver_job_step, handed_back, queued_line, handback_ticket_step}
+use Rattle.stm_commands.specs.Labelling.{label_ticket_step}
 use Rattle.stm_commands.specs.OpenDesk.{HandedOut}
 use Rattle.stm_commands.specs.Refusals.{refused}
 use Rattle.stm_run.specs.Unseen.{TellsFull}
 use Rattle.stm_run.proofs.RunAtOnce.{each_legal, run_allowed}
 use Rattle.stm_run.proofs.DeliveredJobs.{next_stands, queued_stand}
-use Rattle.stm_run.proofs.DeskMoves.{submitted_stands, declared_stands, finished_stands, cancelled_stands}
+use Rattle.stm_run.proofs.DeskMoves.{submitted_stands, declared_stands, finished_stands, cancelled_stands, labelled_stands}
 use Rattle.stm_run.proofs.LegalSettling.{IsAllowed, IsLawful, next_allowed, drain_allowed}
 use Rattle.stm_run.proofs.LookingAlike.{AlikeDesks, same_store, same_next, same_waiters, same_found, same_answers, alike_event, allowed_by, alike_pending, full_too, same_refusal, jobs_alike}
 use Rattle.stm_run.proofs.StandingDesk.{Stands, state_later}
@@ -173,6 +177,36 @@ pub cancel_alike : (b : Bool) (d d' : DeskView) (jobs : List HandedOut) (t : ℕ
 cancel_alike b d d' jobs t st k n =
     subst (λ (o : Option CancelError). AlikeSteps b (cancel_ticket_step d t (cancel_refusal d t)) (cancel_ticket_step d' t o)) (cancel_same b d d' t k n)
     (cancel_by b d d' jobs t st k (cancel_refusal d t) refl)
+
+-- ---- label
+label_either : (o : Option Waiter) → (label_first o true ≡ label_first o false) ⊎ (label_first o true ≡ Some label.HistoryFull)
+label_either None = inl refl
+label_either (Some w) = inr refl
+
+label_full : (d : DeskView) (t : ℕ) (text : List ℕ) (o : Option LabelError) → o ≡ Some label.HistoryFull → TellsFull (label_ticket_step d t text o).1
+label_full d t text o e = inl (ap (λ (x : Option LabelError). (label_ticket_step d t text x).1) e)
+
+label_same : (b : Bool) (d d' : DeskView) (t : ℕ) (text : List ℕ) → AlikeDesks b d d' → NotFull b (label_ticket_step d t text (label_refusal d t)).1 (label_ticket_step d' t text (label_refusal d' t)).1
+    → label_refusal d t ≡ label_refusal d' t
+label_same b d d' t text k n =
+    let s = state_of d in
+    let there : label_refused s (is_full d') t ≡ label_refusal d' t = (same_answers b d d' k).label (is_full d') t in
+    same_refusal (λ full. label_refused s full t) label.HistoryFull (label_either (find_waiter t s.waiters)) b (is_full d) (is_full d') (full_too b d d' k)
+    (λ e. n.0 (label_full d t text (label_refusal d t) e)) (λ q e. n.1 q (label_full d' t text (label_refusal d' t) (sym there ∙ e))) ∙ there
+
+label_by : (b : Bool) (d d' : DeskView) (jobs : List HandedOut) (t : ℕ) (text : List ℕ) → IsTrue (is_label text) → Stands d jobs → AlikeDesks b d d' → (o : Option LabelError) → label_refusal d t ≡ o
+    → AlikeSteps b (label_ticket_step d t text o) (label_ticket_step d' t text o)
+label_by b d d' jobs t text h st k (Some x) e = record { desks = k; text = refl }
+label_by b d d' jobs t text h st k None e =
+    let what = Labelled t text in
+    record { desks = alike_event b d d' what (allowed_by d jobs what (labelled_stands d jobs t text h None e st)) k; text = refl }
+
+pub label_alike : (b : Bool) (d d' : DeskView) (jobs : List HandedOut) (t : ℕ) (text : List ℕ) → IsTrue (is_label text) → Stands d jobs → AlikeDesks b d d'
+    → NotFull b (label_ticket_step d t text (label_refusal d t)).1 (label_ticket_step d' t text (label_refusal d' t)).1
+    → AlikeSteps b (label_ticket_step d t text (label_refusal d t)) (label_ticket_step d' t text (label_refusal d' t))
+label_alike b d d' jobs t text h st k n =
+    subst (λ (o : Option LabelError). AlikeSteps b (label_ticket_step d t text (label_refusal d t)) (label_ticket_step d' t text o)) (label_same b d d' t text k n)
+    (label_by b d d' jobs t text h st k (label_refusal d t) refl)
 
 -- ---- finish
 abbrev tested : Bool → Bool → Bool → Bool → Bool → Option FinishError

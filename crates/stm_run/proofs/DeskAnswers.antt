@@ -15,6 +15,7 @@ use Rattle.stm_store.specs.Tables.{Declared}
 use Rattle.stm_events.specs.declared.errors.CancelError.{CancelError}
 use Rattle.stm_events.specs.declared.errors.DeliverError.{DeliverError}
 use Rattle.stm_events.specs.declared.errors.FinishError.{FinishError}
+use Rattle.stm_events.specs.declared.errors.LabelError.{LabelError}
 use Rattle.stm_events.specs.declared.errors.LateDeclareError.{LateDeclareError}
 use Rattle.stm_events.specs.declared.errors.SubmitError.{SubmitError}
 use Rattle.stm_events.specs.declared.event.What.{What}
@@ -27,12 +28,13 @@ use Rattle.stm_events.specs.Refusals.{missing, blocks_there, overflows, finish_f
 use Rattle.stm_events.specs.SlowDesk.{Since, Waiter, Slow, under, verdict_on, waking, is_blocks, is_new, is_current, find_waiter, without_waiter, stale_after, max_cells, max_waiting}
 use Rattle.stm_events.specs.SlowSettle.{Stop, NoRoom, NoCells, finishes, installs}
 use Rattle.stm_desk.specs.declared.errors.AtomicError.{AtomicError}
-use Rattle.stm_desk.specs.Refusals.{submit_refusal, late_declare_refusal, events_needed, atomic_refusal, finish_refusal, cancel_refusal}
+use Rattle.stm_desk.specs.Refusals.{submit_refusal, late_declare_refusal, events_needed, atomic_refusal, finish_refusal, cancel_refusal, label_refusal}
 use Rattle.stm_desk.specs.Reasons.{WaitReason, reason_of}
-use Rattle.stm_desk.specs.DeskView.{DeskView, state_of, is_full, lacks_room}
+use Rattle.stm_machine.specs.JobsHandedOut.{block_at}
+use Rattle.stm_desk.specs.DeskView.{DeskView, state_of, labels_of, is_full, lacks_room}
 use Rattle.stm_desk.specs.Settling.{slow_settle, slow_stop, slow_drain, slow_drain_stop, requeued_all}
 use Rattle.stm_run.specs.declared.command.Command.{Command}
-use Rattle.stm_run.specs.declared.command.Command.TheVariants.{Tvar, Declare, Try, Looks, Submit, Atomically, Take, Deliver, Handback, Eval, Finish, Cancel, Show, Reads, Store, Settle, Drain, History, Ready, Why, Events, Checkpoint}
+use Rattle.stm_run.specs.declared.command.Command.TheVariants.{Tvar, Declare, Try, Looks, Submit, Atomically, Take, Deliver, Handback, Eval, Finish, Cancel, Show, Reads, Store, Settle, Drain, History, Ready, Why, Events, Checkpoint, Label, Block as BlockCommand, Board}
 use Rattle.stm_blocks.specs.declared.refusal.Refusal.{Refusal}
 use Rattle.stm_lines.specs.NumberArgument.{number_argument}
 use Rattle.stm_blocks.specs.CompiledBlock.{compiled_block}
@@ -40,23 +42,24 @@ use Rattle.stm_blocks.specs.DeclaredVariable.{late_variable_of}
 use Rattle.stm_commands.specs.Arguments.{argument_refused}
 use Rattle.stm_commands.specs.Atomically.{waits_line, ran_text, atomically_block_step, atomically_text_step, atomically_step}
 use Rattle.stm_commands.specs.Blocks.{verdict_line, tried_text, try_answer, reads_line, looked_text, looks_answer, ticket_line, submit_block_step, submit_text_step, submit_step}
-use Rattle.stm_commands.specs.Checkpointing.{are_tickets_full, begun_anew, checkpoint_line, checkpoint_now, checkpoint_step}
+use Rattle.stm_commands.specs.Checkpointing.{are_tickets_full, begun_anew, checkpoint_line, bare_checkpoint_step, checkpoint_step}
 use Rattle.stm_commands.specs.Contents.{waiter_lines, show_text, show_answer, read_text, waiter_reads_text, reads_answer, stored_lines, store_text, store_answer, history_answer, events_text}
 use Rattle.stm_commands.specs.Declaring.{declared_line, declare_variable_step, declare_text_step, declare_step}
 use Rattle.stm_commands.specs.Endings.{tickets_text, result_line, finished_line, cancelled_line, settled_line, drained_line, run_text, finish_ticket_step, finish_step, cancel_ticket_step, cancel_step, settle_desk_step, settle_step, drain_desk_step, drain_step, finish_verdict_step, finish_waiter_step}
 use Rattle.stm_commands.specs.Evaluation.{evaluated_line, evaluated, evaluation_text, eval_step, eval_desk_step}
 use Rattle.stm_commands.specs.Jobs.{max_jobs, taken, job_text, numbered, jobs_line, delivery_refusal, delivered_line, job_at, queued_line, with_jobs, take_jobs_step, take_step, delivery_step, deliver_job_step, deliver_step, handed_back, handback_ticket_step, handback_step}
+use Rattle.stm_commands.specs.Labelling.{label_text, labelled_line, label_ticket_step, labelling, labelling_step, label_step, on_one_line, block_text_line, block_answer, board_lines, board_text, board_answer}
 use Rattle.stm_commands.specs.OpenDesk.{HandedOut, OpenDesk, known, present, on_desk}
 use Rattle.stm_commands.specs.Questions.{ready_tickets, ready_text, ready_answer, reason_text, why_line, why_answer, later_events_text, events_answer}
 use Rattle.stm_commands.specs.Refusals.{refused}
 use Rattle.stm_run.specs.Console.{desk_step}
 use Rattle.stm_run.specs.Laws.{EndsALine}
 use Rattle.stm_run.proofs.ArgumentCases.{either_has, number_has, nothing_has}
-use Rattle.stm_run.proofs.EndedLines.{refused_ends, refusal_ends, late_declare_error_ends, submit_error_ends, atomic_error_ends, deliver_error_ends, finish_error_ends, cancel_error_ends, history_ends, counted_end}
+use Rattle.stm_run.proofs.EndedLines.{refused_ends, refusal_ends, late_declare_error_ends, submit_error_ends, atomic_error_ends, deliver_error_ends, finish_error_ends, cancel_error_ends, label_error_ends, history_ends, counted_end}
 use Rattle.stm_run.proofs.DeclaredVariables.{LateOrTold}
 use Rattle.stm_run.proofs.TextsJudged.{BlockOrTold}
 use Rattle.stm_run.proofs.StandingDesk.{Stands, stands_sound}
-use Rattle.stm_run.proofs.DeskMoves.{submit_told, declare_told, cancel_told, finish_told, may_end}
+use Rattle.stm_run.proofs.DeskMoves.{submit_told, declare_told, cancel_told, label_told, finish_told, may_end}
 use Rattle.stm_run.proofs.RunAtOnce.{atomic_told}
 use Rattle.stm_run.proofs.DeliveredJobs.{refusal_told, evaluated_told}
 use Rattle.stm_queue.specs.Queue.{is_out}
@@ -172,10 +175,29 @@ drain_ends whats None = (codes "drained " ++ decimal (finishes whats) ++ codes "
 drain_ends whats (Some NoRoom) = (codes "stopped HistoryFull drained " ++ decimal (finishes whats) ++ codes " evaluations " ++ decimal (installs whats), refl)
 drain_ends whats (Some NoCells) = (codes "stopped CellsFull drained " ++ decimal (finishes whats) ++ codes " evaluations " ++ decimal (installs whats), refl)
 
+-- ---- labels
+label_ends : (d : DeskView) (t : ℕ) (text : List ℕ) (o : Option LabelError) → label_refusal d t ≡ o → EndsALine (label_ticket_step d t text o).1
+unfolding labelled_line
+label_ends d t text None e = (codes "labelled " ++ decimal t ++ 32 ∷ label_text text, refl)
+label_ends d t text (Some x) e = label_error_ends x (λ m. label_told (find_waiter t (state_of d).waiters) (is_full d) (e ∙ ap Some m))
+
+labelling_ends : (d : OpenDesk) (o : Option (ℕ × List ℕ)) → Ends (labelling_step d o)
+labelling_ends d (Some l) = label_ends d.desk l.0 l.1 (label_refusal d.desk l.0) refl
+labelling_ends d None = bad_ends
+
 -- ---- what there is
 show_ends : (s : Slow) → EndsALine (show_text s)
 unfolding show_text
 show_ends s = (waiter_lines s.store s.waiters ++ codes "waiting " ++ decimal (length s.waiters), refl)
+
+board_ends : (d : DeskView) → EndsALine (board_text d)
+unfolding board_text
+board_ends d = (board_lines (labels_of d) (state_of d).store (state_of d).waiters ++ codes "waiting " ++ decimal (length (state_of d).waiters), refl)
+
+block_ends : (t : ℕ) (o : Option Block) → EndsALine (block_text_line t o)
+unfolding block_text_line
+block_ends t (Some b) = (codes "block " ++ decimal t ++ 32 ∷ on_one_line b.text, refl)
+block_ends t None = refused_ends (codes "NoTicket")
 
 read_ends : (block : Block) (o : Option Since) → EndsALine (read_text block o)
 unfolding reads_line
@@ -203,7 +225,7 @@ later_events_end : (d : OpenDesk) (n : ℕ) → EndsALine (later_events_text d n
 later_events_end d n = counted_end (drop (n - 1) d.desk.history) (codes "events " ++ decimal (length d.desk.history))
 
 -- ---- checkpoints
-checkpoint_ends : (d : OpenDesk) → Ends (checkpoint_now d)
+checkpoint_ends : (d : OpenDesk) → Ends (bare_checkpoint_step d)
 unfolding checkpoint_line
 checkpoint_ends d =
     either_has Ends (are_tickets_full d) (d, refused (codes "TicketsFull")) (begun_anew d, checkpoint_line (length d.desk.history)) (refused_ends (codes "TicketsFull"))
@@ -244,7 +266,7 @@ module _ (judged : (names : List Named) (text : List ℕ) → BlockOrTold names 
   finish_ends d jobs t (Some x) e k = finish_error_ends x (λ m. finish_told (state_of d).store (is_full d) (find_waiter t (state_of d).waiters) (e ∙ ap Some m))
 
   pub desk_ends : (d : OpenDesk) → Stands d.desk d.jobs → (c : Command) (argument : List ℕ) → Ends (desk_step d c argument)
-  unfolding declare_step try_answer looks_answer submit_step atomically_step checkpoint_step take_step deliver_step handback_step eval_step finish_step cancel_step show_answer reads_answer store_answer settle_step drain_step history_answer ready_answer why_answer events_answer
+  unfolding declare_step try_answer looks_answer submit_step atomically_step checkpoint_step take_step deliver_step handback_step eval_step finish_step cancel_step show_answer reads_answer store_answer settle_step drain_step history_answer ready_answer why_answer events_answer label_step block_answer board_answer
   desk_ends d k Tvar argument = refused_ends (codes "Late")
   desk_ends d k Declare argument = declare_ends d.desk (late_variable_of (known d) argument) (late (known d) argument)
   desk_ends d k Try argument = tried_ends d k (compiled_block (known d) argument) (judged (known d) argument)
@@ -276,4 +298,8 @@ module _ (judged : (names : List Named) (text : List ℕ) → BlockOrTold names 
   desk_ends d k Ready argument = nothing_has EndsALine (ready_text (state_of d.desk)) argument_refused argument (ready_ends (state_of d.desk)) bad_ends
   desk_ends d k Why argument = number_has EndsALine (λ t. why_line t (reason_of d.desk t)) argument_refused (number_argument argument) (λ t. why_ends t (reason_of d.desk t)) bad_ends
   desk_ends d k Events argument = number_has EndsALine (later_events_text d) argument_refused (number_argument argument) (later_events_end d) bad_ends
-  desk_ends d k Checkpoint argument = nothing_has Ends (checkpoint_now d) (d, argument_refused) argument (checkpoint_ends d) bad_ends
+  desk_ends d k Checkpoint argument = nothing_has Ends (bare_checkpoint_step d) (d, argument_refused) argument (checkpoint_ends d) bad_ends
+  desk_ends d k Label argument = labelling_ends d (labelling argument)
+  desk_ends d k BlockCommand argument =
+      number_has EndsALine (λ t. block_text_line t (block_at (state_of d.desk) t)) argument_refused (number_argument argument) (λ t. block_ends t (block_at (state_of d.desk) t)) bad_ends
+  desk_ends d k Board argument = nothing_has EndsALine (board_text d.desk) argument_refused argument (board_ends d.desk) bad_ends

@@ -1,4 +1,4 @@
--- What `submit`, `declare`, `finish` and `cancel` do is allowed where they aren't refused, so the desk goes on standing.
+-- What `submit`, `declare`, `finish`, `cancel` and `label` do is allowed where they aren't refused, so the desk goes on standing.
 use Rattle.std.proofs.Common.{◌≡◌, ℕ, ◌+◌, ◌<◌, ◌≤◌, Bool, true, false, cond, not, List, [], ◌∷◌, length, Option, Some, None, refl, sym, subst, ap, arith}
 use Rattle.std.specs.Prelude.{nat_le, nat_lt, is_some, IsSomeAnd, IsTrue}
 use Rattle.std.proofs.lemmas.Bool.Decides.{nat_tests}
@@ -11,7 +11,7 @@ use Rattle.stm_store.specs.Cells.{plains, Covers, kinds_of, made_by, changed_by}
 use Rattle.stm_store.specs.Naming.{may_hold_known, number_named}
 use Rattle.stm_store.specs.Tables.{Declared, is_type}
 use Rattle.stm_check.specs.TypedBlock.{Block}
-use Rattle.stm_events.specs.declared.event.What.TheVariants.{Submitted, Finished, Cancelled, Declared as DeclaredLate}
+use Rattle.stm_events.specs.declared.event.What.TheVariants.{Submitted, Finished, Cancelled, Declared as DeclaredLate, Labelled}
 use Rattle.stm_events.specs.declared.errors.SubmitError.{SubmitError}
 use Rattle.stm_events.specs.declared.errors.SubmitError.TheVariants as submit
 use Rattle.stm_events.specs.declared.errors.LateDeclareError.{LateDeclareError}
@@ -20,16 +20,20 @@ use Rattle.stm_events.specs.declared.errors.FinishError.{FinishError}
 use Rattle.stm_events.specs.declared.errors.FinishError.TheVariants as finish
 use Rattle.stm_events.specs.declared.errors.CancelError.{CancelError}
 use Rattle.stm_events.specs.declared.errors.CancelError.TheVariants as cancel
+use Rattle.stm_events.specs.declared.errors.LabelError.{LabelError}
+use Rattle.stm_events.specs.declared.errors.LabelError.TheVariants as label
+use Rattle.stm_events.specs.Labels.{is_label}
 use Rattle.stm_events.specs.Laws.{IsWellTyped}
-use Rattle.stm_events.specs.Refusals.{missing, submit_first, declare_first, late_declare_refused, blocks_there, overflows, finish_first, cancel_first}
+use Rattle.stm_events.specs.Refusals.{missing, submit_first, declare_first, late_declare_refused, blocks_there, overflows, finish_first, cancel_first, label_first}
 use Rattle.stm_events.specs.SlowDesk.{Waiter, verdict_on, is_new, is_current, find_waiter, without_waiter, stale_after, waking, max_cells, max_waiting, MayFinish}
 use Rattle.stm_events.specs.declared.staleness.StalenessRule.{StalenessRule}
 use Rattle.stm_machine.proofs.Declaring.{may_declare}
-use Rattle.stm_desk.specs.Refusals.{submit_refusal, late_declare_refusal, finish_refusal, cancel_refusal}
+use Rattle.stm_desk.specs.Refusals.{submit_refusal, late_declare_refusal, finish_refusal, cancel_refusal, label_refusal}
 use Rattle.stm_desk.specs.DeskView.{DeskView, state_of, is_full}
 use Rattle.stm_commands.specs.Blocks.{submit_block_step}
 use Rattle.stm_commands.specs.Declaring.{declare_variable_step}
 use Rattle.stm_commands.specs.Endings.{finish_ticket_step, cancel_ticket_step, finish_verdict_step, finish_waiter_step}
+use Rattle.stm_commands.specs.Labelling.{label_ticket_step}
 use Rattle.stm_commands.specs.OpenDesk.{HandedOut}
 use Rattle.stm_run.proofs.StandingDesk.{Stands, stands_sound, stands_event}
 use Rattle.stm_run.proofs.TypedTable.{same_kind}
@@ -109,6 +113,21 @@ pub cancel_told : (o : Option Waiter) (full : Bool) → cancel_first o full ≡ 
 cancel_told None full e = cc
 cancel_told (Some w) true e = cc
 cancel_told (Some w) false e = cc
+
+-- ---- label
+pub labelled_stands : (d : DeskView) (jobs : List HandedOut) (t : ℕ) (text : List ℕ) → IsTrue (is_label text) → (o : Option LabelError) → label_refusal d t ≡ o → Stands d jobs → Stands (label_ticket_step d t text o).0 jobs
+labelled_stands d jobs t text h (Some x) e k = k
+labelled_stands d jobs t text h None e k = by (find_waiter t (state_of d).waiters) refl (is_full d) refl e
+  where
+    by : (o : Option Waiter) → find_waiter t (state_of d).waiters ≡ o → (full : Bool) → is_full d ≡ full → label_first o full ≡ None → Stands (label_ticket_step d t text None).0 jobs
+    by None f full r q = absurd cc
+    by (Some w) f true r q = absurd cc
+    by (Some w) f false r q = stands_event d jobs (Labelled t text) r (subst (λ (o : Option Waiter). IsSomeAnd o (λ w. is_label text ≡ true)) (sym f) h) tt k
+
+pub label_told : (o : Option Waiter) (full : Bool) → label_first o full ≡ Some label.NoMemory → ⊥
+label_told None full e = cc
+label_told (Some w) true e = cc
+label_told (Some w) false e = cc
 
 -- ---- finish
 pub record MayEnd (new current blocks full over : Bool) : Type 0 where

@@ -19,6 +19,8 @@ use Rattle.stm_events.specs.declared.errors.FinishError.{FinishError}
 use Rattle.stm_events.specs.declared.errors.FinishError.TheVariants as finish
 use Rattle.stm_events.specs.declared.errors.CancelError.{CancelError}
 use Rattle.stm_events.specs.declared.errors.CancelError.TheVariants as cancel
+use Rattle.stm_events.specs.declared.errors.LabelError.{LabelError}
+use Rattle.stm_events.specs.declared.errors.LabelError.TheVariants as label
 use Rattle.stm_store.specs.declared.cell.Cell.{Cell}
 use Rattle.stm_machine.specs.declared.checkpoint.CheckpointBlock.{CheckpointBlock}
 use Rattle.stm_machine.specs.Checkpoints.{CheckpointView}
@@ -28,7 +30,7 @@ use Rattle.stm_event_lines.specs.CheckpointLines.{cell_line, checkpoint_header_l
 use Rattle.stm_event_lines.specs.Lines.{event_line, header_line, variable_line}
 use Rattle.stm_blocks.specs.declared.refusal.Refusal.{Refusal}
 use Rattle.stm_blocks.specs.declared.refusal.Refusal.TheVariants.{Parsing, Typing, Unknown, Declaring}
-use Rattle.stm_commands.specs.Refusals.{refused, refused_at, refused_variable, refusal_text, late_declare_error_text, submit_error_text, atomic_error_text, deliver_error_text, finish_error_text, cancel_error_text}
+use Rattle.stm_commands.specs.Refusals.{refused, refused_at, refused_variable, refusal_text, late_declare_error_text, submit_error_text, atomic_error_text, deliver_error_text, finish_error_text, cancel_error_text, label_error_text}
 use Rattle.stm_blocks.specs.OutOfMemory.{IsOutOfMemory}
 use Rattle.stm_run.specs.Laws.{EndsALine}
 
@@ -107,6 +109,11 @@ pub cancel_error_ends : (e : CancelError) → e ≢ cancel.NoMemory → EndsALin
 cancel_error_ends cancel.NoTicket h = refused_ends (codes "NoTicket")
 cancel_error_ends cancel.HistoryFull h = refused_ends (codes "HistoryFull")
 cancel_error_ends cancel.NoMemory h = absurd (h refl)
+
+pub label_error_ends : (e : LabelError) → e ≢ label.NoMemory → EndsALine (label_error_text e)
+label_error_ends label.NoTicket h = refused_ends (codes "NoTicket")
+label_error_ends label.HistoryFull h = refused_ends (codes "HistoryFull")
+label_error_ends label.NoMemory h = absurd (h refl)
 
 -- ---- the history
 -- a text ends with a line feed whatever stands before it

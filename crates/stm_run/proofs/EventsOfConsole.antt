@@ -1,7 +1,7 @@
 -- Each event of a console's desk is of client 0, each block that was submitted or waits is what its text checks to, and the declared
 -- variables can be in lines.
 use Rattle.std.proofs.Common.{◌≡◌, ◌≢◌, ℕ, zero, suc, ◌+◌, ◌-◌, Bool, true, false, cond, not, List, [], ◌∷◌, ◌++◌, length, Option, Some, None, IfSome, Result, Ok, Err, refl, ap, sym, ◌∙◌, subst, arith, length-append, append_assoc, append-nil}
-use Rattle.std.specs.Prelude.{nat_lt, ◌==◌, MatchBool, map}
+use Rattle.std.specs.Prelude.{nat_lt, ◌==◌, IsTrue, MatchBool, map}
 use Rattle.stm_store.specs.declared.cell.Cell.{Cell}
 use Rattle.stm_terms.specs.Ast.{Act}
 use Rattle.stm_terms.specs.ParsedAst as raw
@@ -21,25 +21,27 @@ use Rattle.stm_events.specs.declared.errors.CancelError.{CancelError}
 use Rattle.stm_events.specs.declared.errors.DeliverError.{DeliverError}
 use Rattle.stm_events.specs.declared.errors.FinishError.{FinishError}
 use Rattle.stm_events.specs.declared.errors.LateDeclareError.{LateDeclareError}
+use Rattle.stm_events.specs.declared.errors.LabelError.{LabelError}
 use Rattle.stm_events.specs.declared.errors.SubmitError.{SubmitError}
 use Rattle.stm_events.specs.declared.event.Event.{Event}
 use Rattle.stm_events.specs.declared.event.What.{What}
-use Rattle.stm_events.specs.declared.event.What.TheVariants.{Submitted, Installed, Finished, Cancelled, Declared as DeclaredLate}
+use Rattle.stm_events.specs.declared.event.What.TheVariants.{Submitted, Installed, Finished, Cancelled, Declared as DeclaredLate, Labelled}
+use Rattle.stm_events.specs.Labels.{Labels, is_label}
 use Rattle.stm_events.specs.SlowDesk.{Waiter, Slow, verdict_on, is_blocks, find_waiter, without_waiter, delivered as delivered_to, after_writes, with_delivery, after, state_from, waking}
 use Rattle.std.specs.Prelude.{nat_eq}
 use Rattle.stm_events.proofs.Folds.{state-append}
 use Rattle.stm_events.specs.SlowSettle.{lowest, is_due, can_end, installing, ending, next_of, Order, next_what, has_cells, settle_on, running}
 use Rattle.stm_events.specs.SlowDrain.{is_next, drain_of, next_drain}
 use Rattle.stm_machine.specs.Machine.{event}
-use Rattle.stm_machine.specs.Checkpoints.{CheckpointView, waiter_of, block_of_waiter, checkpoint_of, start_of}
+use Rattle.stm_machine.specs.Checkpoints.{CheckpointView, waiter_of, block_of_waiter, checkpoint_of, labelled_block, start_of}
 use Rattle.stm_machine.specs.declared.checkpoint.CheckpointBlock.{CheckpointBlock}
 use Rattle.stm_machine.specs.JobsHandedOut.{sent}
 use Rattle.stm_event_lines.proofs.CheckedBlocks.{checked_blocks_stay}
 use Rattle.stm_event_lines.specs.WholeBlocks.{BlockFault, NotParsed, NotTyped, given_type, block_if_typed, block_if_parsed, checked_block}
 use Rattle.stm_events.specs.SlowAtomically.{install_at_once}
 use Rattle.stm_desk.specs.declared.errors.AtomicError.{AtomicError}
-use Rattle.stm_desk.specs.Refusals.{submit_refusal, late_declare_refusal, atomic_refusal, finish_refusal, cancel_refusal}
-use Rattle.stm_desk.specs.DeskView.{DeskView, start_state, state_of, with_event}
+use Rattle.stm_desk.specs.Refusals.{submit_refusal, late_declare_refusal, atomic_refusal, finish_refusal, cancel_refusal, label_refusal}
+use Rattle.stm_desk.specs.DeskView.{DeskView, start_state, state_of, labels_of, with_event}
 use Rattle.stm_desk.specs.Settling.{slow_run, requeued_all, with_whats}
 use Rattle.stm_blocks.specs.declared.refusal.Refusal.{Refusal}
 use Rattle.stm_blocks.specs.CompiledBlock.{block_or_refusal, compiled_block}
@@ -49,15 +51,16 @@ use Rattle.stm_lines.specs.LineClass.{LineClass, TooLong, Silent, NotAscii, Word
 use Rattle.stm_commands.specs.Arguments.{argument_refused}
 use Rattle.stm_commands.specs.Atomically.{atomically_block_step, atomically_text_step, atomically_step}
 use Rattle.stm_commands.specs.Blocks.{submit_block_step, submit_text_step, submit_step}
-use Rattle.stm_commands.specs.Checkpointing.{are_tickets_full, begun_anew, checkpoint_line, checkpoint_now, checkpoint_step, makes_checkpoint}
+use Rattle.stm_commands.specs.Checkpointing.{are_tickets_full, begun_anew, checkpoint_line, bare_checkpoint_step, checkpoint_step, makes_checkpoint}
 use Rattle.stm_commands.specs.Declaring.{declare_variable_step, declare_text_step, declare_step}
 use Rattle.stm_commands.specs.Endings.{finish_verdict_step, finish_waiter_step, finish_ticket_step, finish_step, cancel_ticket_step, cancel_step, settled_line, drained_line, run_desk_step, settle_desk_step, settle_step, drain_desk_step, drain_step}
 use Rattle.stm_commands.specs.Evaluation.{DeliveredSoFar, delivered_by, delivered_next, delivered_all, all_queued, eval_desk_step, eval_step}
 use Rattle.stm_commands.specs.Jobs.{max_jobs, taken, with_jobs, jobs_of, jobs_line, take_jobs_step, take_step, delivery_refusal, installed, delivery_step, job_at, deliver_job_step, deliver_step, queued_line, handed_back, handback_ticket_step, handback_step}
+use Rattle.stm_commands.specs.Labelling.{label_ticket_step, labelling, labelling_step, label_step}
 use Rattle.stm_commands.specs.OpenDesk.{HandedOut, OpenDesk, known, on_desk}
 use Rattle.stm_commands.specs.Refusals.{refused}
 use Rattle.stm_run.specs.declared.command.Command.{Command}
-use Rattle.stm_run.specs.declared.command.Command.TheVariants.{Tvar, Declare, Submit, Atomically, Take, Deliver, Handback, Eval, Finish, Cancel, Settle, Drain, Checkpoint}
+use Rattle.stm_run.specs.declared.command.Command.TheVariants.{Tvar, Declare, Submit, Atomically, Take, Deliver, Handback, Eval, Finish, Cancel, Settle, Drain, Checkpoint, Label}
 use Rattle.stm_run.specs.declared.console.Console.{Console}
 use Rattle.stm_run.specs.declared.console.Console.TheVariants.{Declaring, Open}
 use Rattle.stm_run.specs.Console.{command_named, state_after, initial_console, desk_step, on_console, command_step, word_step, class_step, step}
@@ -72,6 +75,7 @@ use Rattle.stm_parse.specs.ParseFunction.{DeclarationAnswersAreRight}
 use Rattle.stm_history.specs.Judgement.{MayDeclare, AreVariablesFrom}
 use Rattle.stm_history.specs.Starts.{AreOfText, BlocksAreOfText}
 use Rattle.stm_run.proofs.ArgumentCases.{either_has, number_has, nothing_has}
+use Rattle.stm_run.proofs.GivenLabels.{GivesLabel, gives_label}
 use Rattle.std.specs.Prelude.{codes}
 
 -- ---- the block of a text has that text
@@ -127,13 +131,14 @@ pub record Added
   pub of_console : AreOfConsole (state_from (start_of table checkpoint) before) added
 
 -- ---- settling
--- nothing is submitted or declared
+-- nothing is submitted, declared or labelled
 abbrev IsQuiet : What → Type 0
 IsQuiet (Submitted ticket block) = ⊥
 IsQuiet (Installed ticket v) = Unit {0}
 IsQuiet (Finished ticket v first_new stale) = Unit {0}
 IsQuiet (Cancelled ticket) = Unit {0}
 IsQuiet (DeclaredLate name kind value) = ⊥
+IsQuiet (Labelled ticket label) = ⊥
 
 abbrev AreQuiet : List What → Type 0
 AreQuiet [] = Unit {0}
@@ -145,6 +150,7 @@ quiet_text known (Installed ticket v) q = tt
 quiet_text known (Finished ticket v first_new stale) q = tt
 quiet_text known (Cancelled ticket) q = tt
 quiet_text known (DeclaredLate name kind value) q = absurd q
+quiet_text known (Labelled ticket label) q = absurd q
 
 installing_quiet : (t : ℕ) (o : Option Verdict) → IfSome (installing t o) IsQuiet
 installing_quiet t None = tt
@@ -286,6 +292,10 @@ module _ (table : List Declared) (checkpoint : Option CheckpointView) (before : 
   cancels d t None k = more d (Cancelled t) k tt
   cancels d t (Some e) k = k
 
+  labels : (d : DeskView) (t : ℕ) (text : List ℕ) → IsTrue (is_label text) → (o : Option LabelError) → Holds d → Holds (label_ticket_step d t text o).0
+  labels d t text h None k = more d (Labelled t text) k h
+  labels d t text h (Some e) k = k
+
   whats_more : (d : DeskView) (xs : List What) → AreQuiet xs → Holds d → Holds (with_whats d 0 xs)
   whats_more d [] q k = k
   whats_more d (x ∷ xs) q k = whats_more (with_event d 0 x) xs q.1 (more d x k (quiet_text (state_of d).names x q.0))
@@ -308,8 +318,12 @@ module _ (table : List Declared) (checkpoint : Option CheckpointView) (before : 
   abbrev After : OpenDesk × List ℕ → Type 0
   After p = Holds p.0.desk
 
+  labelling_after : (d : OpenDesk) (o : Option (ℕ × List ℕ)) → GivesLabel o → Holds d.desk → After (labelling_step d o)
+  labelling_after d (Some l) h k = labels d.desk l.0 l.1 h (label_refusal d.desk l.0) k
+  labelling_after d None h k = k
+
   desk_after : (d : OpenDesk) → Holds d.desk → (c : Command) → c ≢ Checkpoint → (argument : List ℕ) → After (desk_step d c argument)
-  unfolding submit_step declare_step atomically_step take_step deliver_step handback_step eval_step finish_step cancel_step settle_step drain_step
+  unfolding submit_step declare_step atomically_step take_step deliver_step handback_step eval_step finish_step cancel_step settle_step drain_step label_step
   desk_after d k Submit n argument = submits d.desk (compiled_block (known d) argument) (λ b e. of_text (known d) argument b e) k
   desk_after d k Declare n argument = declares d.desk argument (late_variable_of (known d) argument) refl k
   desk_after d k Atomically n argument = atomically_runs d.desk (compiled_block (known d) argument) (λ b e. of_text (known d) argument b e) k
@@ -328,6 +342,7 @@ module _ (table : List Declared) (checkpoint : Option CheckpointView) (before : 
   desk_after d k Drain n argument =
       nothing_has After (on_desk d (drain_desk_step (requeued_all d.desk))) (d, argument_refused) argument (runs next_drain drain_is_quiet drained_line (requeued_all d.desk) k) k
   desk_after d k Checkpoint n argument = absurd (n refl)
+  desk_after d k Label n argument = labelling_after d (labelling argument) (gives_label argument) k
   desk_after d k c n argument = k
 
 -- ---- a console only adds events
@@ -473,14 +488,15 @@ texts_after s (Installed t v) o h = texts_delivered s.names t s.store s.waiters 
 texts_after s (Finished t v n stale) o h = texts_marked s.names (waking s.rule s.store v) (without_waiter t s.waiters) (texts_without s.names t s.waiters h)
 texts_after s (Cancelled t) o h = texts_without s.names t s.waiters h
 texts_after s (DeclaredLate name kind value) o h = texts_later s.names _ s.waiters h
+texts_after s (Labelled t label) o h = h
 
 pub texts_from : (s : Slow) (es : List Event) → AreOfConsole s es → WaitersAreOfText s → WaitersAreOfText (state_from s es)
 texts_from s [] o h = h
 texts_from s (e ∷ es) o h = texts_from (after s e.what) es o.2 (texts_after s e.what o.1 h)
 
-blocks_of_text : (known : List Named) (ws : List Waiter) → AreOfTheirTexts known ws → AreOfText known (map block_of_waiter ws)
-blocks_of_text known [] h = tt
-blocks_of_text known (w ∷ ws) h = (h.0, blocks_of_text known ws h.1)
+blocks_of_text : (ls : Labels) (known : List Named) (ws : List Waiter) → AreOfTheirTexts known ws → AreOfText known (map (labelled_block ls) (map block_of_waiter ws))
+blocks_of_text ls known [] h = tt
+blocks_of_text ls known (w ∷ ws) h = (h.0, blocks_of_text ls known ws h.1)
 
 waiters_of_text : (known : List Named) (store : List Cell) (bs : List CheckpointBlock) → AreOfText known bs → AreOfTheirTexts known (map (waiter_of store) bs)
 waiters_of_text known store [] h = tt
@@ -489,7 +505,7 @@ waiters_of_text known store (b ∷ bs) h = (h.0, waiters_of_text known store bs 
 -- a checkpoint has the blocks that wait
 pub checkpoint_texts : (s : Console) → WaitAsTheirTexts s → IfSome (checkpoint_of_console (with_checkpoint s)) BlocksAreOfText
 unfolding checkpoint_of
-checkpoint_texts s h = let x = state_of (present_desk s).desk in blocks_of_text x.names x.waiters h
+checkpoint_texts s h = let d = (present_desk s).desk in let x = state_of d in blocks_of_text (labels_of d) x.names x.waiters h
 
 pub start_texts : (table : List Declared) (o : Option CheckpointView) → IfSome o BlocksAreOfText → WaitersAreOfText (start_of table o)
 start_texts table None h = tt
@@ -562,7 +578,7 @@ fits_more table d v n = let low = n.room in (omega (arith, low, length-append ta
 checkpoint_fits : (d : OpenDesk) (argument : List ℕ) → VariablesFit d.desk.table → VariablesFit (checkpoint_step d argument).0.desk.table
 unfolding checkpoint_step
 checkpoint_fits d argument h =
-    nothing_has (λ (p : OpenDesk × List ℕ). VariablesFit p.0.desk.table) (checkpoint_now d) (d, argument_refused) argument
+    nothing_has (λ (p : OpenDesk × List ℕ). VariablesFit p.0.desk.table) (bare_checkpoint_step d) (d, argument_refused) argument
     (either_has (λ (p : OpenDesk × List ℕ). VariablesFit p.0.desk.table) (are_tickets_full d) (d, refused (codes "TicketsFull")) (begun_anew d, checkpoint_line (length d.desk.history)) h h) h
 
 module _ (declarations : DeclarationAnswersAreRight) where

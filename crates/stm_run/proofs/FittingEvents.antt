@@ -5,7 +5,7 @@ use Rattle.stm_store.specs.Naming.{Named}
 use Rattle.stm_store.specs.Tables.{Declared}
 use Rattle.stm_events.specs.declared.event.Event.{Event}
 use Rattle.stm_events.specs.declared.event.What.{What}
-use Rattle.stm_events.specs.declared.event.What.TheVariants.{Submitted, Installed, Finished, Cancelled, Declared as DeclaredLate}
+use Rattle.stm_events.specs.declared.event.What.TheVariants.{Submitted, Installed, Finished, Cancelled, Declared as DeclaredLate, Labelled}
 use Rattle.stm_events.specs.SlowDesk.{Slow, after}
 use Rattle.stm_event_lines.specs.Fits.{WhatFitsNames}
 use Rattle.stm_blocks.specs.DeclaredVariable.{late_variable_of}
@@ -27,6 +27,7 @@ module _ (declarations : DeclarationAnswersAreRight) where
   what_fits known (Cancelled ticket) t n v = n
   what_fits known (DeclaredLate name kind value) t n v =
       let told = variable_told known t.0 (record { name = name; kind = kind; value = value }) t.1 in (told.0, n.0, fits_value value told.1 n.1)
+  what_fits known (Labelled ticket label) t n v = (n, t)
 
   pub all_fit : (s : Slow) (es : List Event) → AreOfConsole s es → HaveSmallNumbers es → AreVerdictsInRange es → EventsFitNames s es
   all_fit s [] t n v = tt

@@ -1,4 +1,5 @@
 pub mod AgreeingReads
+pub mod AlikeLabels
 pub mod AlikeSteps
 pub mod ArgumentCases
 pub mod CommandWords
@@ -12,6 +13,7 @@ pub mod EndedLines
 pub mod EventsOfConsole
 pub mod FitTables
 pub mod FittingEvents
+pub mod GivenLabels
 pub mod InputInParts
 pub mod LegalSettling
 pub mod LookingAlike

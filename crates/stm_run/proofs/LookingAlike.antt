@@ -11,6 +11,7 @@ use Rattle.stm_events.specs.declared.event.What.{What}
 use Rattle.stm_events.specs.Answers.{AnswersAlike}
 use Rattle.stm_events.specs.BlockStatus.{read_since_then}
 use Rattle.stm_events.specs.Ready.{is_ready}
+use Rattle.stm_events.specs.Labels.{Labels, label_of}
 use Rattle.stm_events.specs.SlowSettle.{ends}
 use Rattle.stm_events.specs.SlowDesk.{Since, Waiter, Slow, under, find_waiter, Allows}
 use Rattle.stm_events.specs.States.{IsPossible, observed}
@@ -20,13 +21,16 @@ use Rattle.stm_events.proofs.Observed.{observed_after, observed_answers}
 use Rattle.stm_events.proofs.Possible.{possible_after}
 use Rattle.stm_machine.specs.Machine.{event}
 use Rattle.stm_machine.specs.JobsHandedOut.{block_at}
-use Rattle.stm_desk.specs.DeskView.{DeskView, start_state, state_of, is_full, with_event, pending_after}
+use Rattle.stm_machine.specs.Checkpoints.{first_labels}
+use Rattle.stm_desk.specs.DeskView.{DeskView, start_state, state_of, labels_of, is_full, with_event, pending_after}
 use Rattle.stm_commands.specs.Contents.{waiter_line, waiter_lines, standing_text, show_text, read_text, waiter_reads_text}
 use Rattle.stm_commands.specs.Blocks.{reads_line}
 use Rattle.stm_commands.specs.Jobs.{job_of, jobs_of}
+use Rattle.stm_commands.specs.Labelling.{label_text, block_text_line, board_line, board_lines, board_text}
 use Rattle.stm_commands.specs.OpenDesk.{HandedOut}
 use Rattle.stm_commands.specs.Questions.{ready_tickets, ready_text}
 use Rattle.stm_commands.specs.Endings.{tickets_text}
+use Rattle.stm_run.proofs.AlikeLabels.{labels_later, after_alike}
 use Rattle.stm_run.proofs.StandingDesk.{Stands, state_later}
 
 -- the second has no longer a history than the first, if b says so
@@ -37,6 +41,7 @@ pub record AlikeDesks (b : Bool) (d d' : DeskView) : Type 0 where
   pub possible : IsPossible (state_of d)
   pub possible_too : IsPossible (state_of d')
   pub same : observed (state_of d) ≡ observed (state_of d')
+  pub labels : (t : ℕ) → label_of t (labels_of d) ≡ label_of t (labels_of d')
   pub fewer : b ≡ true → length d'.history ≤ length d.history
 
 pub same_store : (b : Bool) (d d' : DeskView) → AlikeDesks b d d' → (state_of d).store ≡ (state_of d').store
@@ -73,6 +78,9 @@ alike_event b d d' what a k =
       possible = subst IsPossible later (possible_after s what k.possible a);
       possible_too = subst IsPossible later' (possible_after s' what k.possible_too next.0);
       same = ap observed (sym later) ∙ next.1 ∙ ap observed later';
+      labels = λ t.
+          ap (label_of t) (labels_later (first_labels d.checkpoint) d.history e) ∙ after_alike what (labels_of d) (labels_of d') k.labels t
+          ∙ sym (ap (label_of t) (labels_later (first_labels d'.checkpoint) d'.history e));
       fewer = λ f. let few = k.fewer f in omega (arith, length-append d.history (e ∷ []), length-append d'.history (e ∷ []), few);
     }
 
@@ -83,7 +91,7 @@ allowed_by d jobs what k = (legal_split (start_state d) d.history (event 0 what)
 -- the queue may change, if it changes on both
 pub alike_pending : (b : Bool) (d d' : DeskView) (es es' : List Entry) → es ≡ es' → AlikeDesks b d d' → AlikeDesks b (record d { pending = es }) (record d' { pending = es' })
 alike_pending b d d' es es' e k =
-    record { table = k.table; limit = k.limit; pending = e; possible = k.possible; possible_too = k.possible_too; same = k.same; fewer = k.fewer }
+    record { table = k.table; limit = k.limit; pending = e; possible = k.possible; possible_too = k.possible_too; same = k.same; labels = k.labels; fewer = k.fewer }
 
 -- ---- a full history is told, or makes no difference
 fewer_full : (l m n : ℕ) → m ≤ n → nat_le l m ≡ true → nat_le l n ≡ true
@@ -123,6 +131,35 @@ show_alike b d d' k =
     lines_alike (state_of d).store ws ws' (same_waiters b d d' k) ∙ ap (λ (c : List Cell). waiter_lines c ws') (same_store b d d' k) in
     let count : length ws ≡ length ws' = same_length ws ws' (same_waiters b d d' k) in
     λ i. lines i ++ codes "waiting " ++ decimal (count i) ++ 10 ∷ []
+
+board_by : (ls ls' : Labels) → ((t : ℕ) → label_of t ls ≡ label_of t ls') → (store : List Cell) (ws ws' : List Waiter) → AreAlike ws ws' → board_lines ls store ws ≡ board_lines ls' store ws'
+unfolding board_line
+board_by ls ls' same store [] [] k = refl
+board_by ls ls' same store [] (w' ∷ ws') k = absurd k
+board_by ls ls' same store (w ∷ ws) [] k = absurd k
+board_by ls ls' same store (w ∷ ws) (w' ∷ ws') k =
+    let label : label_of w.ticket ls ≡ label_of w'.ticket ls' = same w.ticket ∙ ap (λ (t : ℕ). label_of t ls') k.0.ticket in
+    ap₂ (λ (x y : List ℕ). x ++ y) (λ i. decimal (k.0.ticket i) ++ standing_text (same_standing store w w' k.0 i) ++ 32 ∷ label_text (label i) ++ 10 ∷ [])
+    (board_by ls ls' same store ws ws' k.1)
+
+pub board_alike : (b : Bool) (d d' : DeskView) → AlikeDesks b d d' → board_text d ≡ board_text d'
+unfolding board_text
+board_alike b d d' k =
+    let ws = (state_of d).waiters in
+    let ws' = (state_of d').waiters in
+    let lines : board_lines (labels_of d) (state_of d).store ws ≡ board_lines (labels_of d') (state_of d').store ws' =
+    board_by (labels_of d) (labels_of d') k.labels (state_of d).store ws ws' (same_waiters b d d' k) ∙ ap (λ (c : List Cell). board_lines (labels_of d') c ws') (same_store b d d' k) in
+    let count : length ws ≡ length ws' = same_length ws ws' (same_waiters b d d' k) in
+    λ i. lines i ++ codes "waiting " ++ decimal (count i) ++ 10 ∷ []
+
+block_alike : (o o' : Option Waiter) → MayBeAlike o o' → option_map (λ w. w.block) o ≡ option_map (λ w. w.block) o'
+block_alike None None k = refl
+block_alike None (Some w') k = absurd k
+block_alike (Some w) None k = absurd k
+block_alike (Some w) (Some w') k = ap Some k.block
+
+pub text_alike : (b : Bool) (d d' : DeskView) (t : ℕ) → AlikeDesks b d d' → block_text_line t (block_at (state_of d) t) ≡ block_text_line t (block_at (state_of d') t)
+text_alike b d d' t k = ap (block_text_line t) (block_alike (find_waiter t (state_of d).waiters) (find_waiter t (state_of d').waiters) (same_found b d d' t k))
 
 read_alike : (block block' : Block) (o o' : Option Since) → read_since_then block o ≡ read_since_then block' o' → read_text block o ≡ read_text block' o'
 read_alike block block' None None e = refl
@@ -164,12 +201,6 @@ ready_alike b d d' k =
     λ i. codes "ready " ++ tickets_text (tickets i) ++ 10 ∷ []
 
 -- ---- jobs
-block_alike : (o o' : Option Waiter) → MayBeAlike o o' → option_map (λ w. w.block) o ≡ option_map (λ w. w.block) o'
-block_alike None None k = refl
-block_alike None (Some w') k = absurd k
-block_alike (Some w) None k = absurd k
-block_alike (Some w) (Some w') k = ap Some k.block
-
 job_by : (c c' : List Cell) (t : ℕ) (o : Option Block) (s s' : Slow) → s.store ≡ s'.store → job_of s t o ≡ job_of s' t o
 job_by c c' t None s s' e = refl
 job_by c c' t (Some x) s s' e = λ i. record { ticket = t; block = x; store = plains (e i) } ∷ []

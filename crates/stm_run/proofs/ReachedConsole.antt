@@ -11,12 +11,12 @@ use Rattle.stm_store.specs.Naming.{Named}
 use Rattle.stm_store.specs.Tables.{Declared}
 use Rattle.stm_event_lines.specs.WholeBlocks.{CheckedAreWellTyped}
 use Rattle.stm_events.specs.SlowDesk as slow
-use Rattle.stm_desk.specs.Refusals.{submit_refusal, late_declare_refusal, atomic_refusal, finish_refusal, cancel_refusal}
+use Rattle.stm_desk.specs.Refusals.{submit_refusal, late_declare_refusal, atomic_refusal, finish_refusal, cancel_refusal, label_refusal}
 use Rattle.stm_machine.specs.Checkpoints.{max_next}
 use Rattle.stm_desk.specs.DeskView.{DeskView, state_of}
 use Rattle.stm_desk.specs.Settling.{requeued_all}
 use Rattle.stm_run.specs.declared.command.Command.{Command}
-use Rattle.stm_run.specs.declared.command.Command.TheVariants.{Tvar, Declare, Submit, Atomically, Take, Deliver, Handback, Eval, Finish, Cancel, Settle, Drain, Checkpoint}
+use Rattle.stm_run.specs.declared.command.Command.TheVariants.{Tvar, Declare, Submit, Atomically, Take, Deliver, Handback, Eval, Finish, Cancel, Settle, Drain, Checkpoint, Label}
 use Rattle.stm_run.specs.declared.console.Console.{Console}
 use Rattle.stm_run.specs.declared.console.Console.TheVariants.{Declaring, Open}
 use Rattle.stm_blocks.specs.declared.refusal.Refusal.{Refusal}
@@ -28,12 +28,13 @@ use Rattle.stm_commands.specs.Arguments.{argument_refused}
 use Rattle.stm_commands.specs.Atomically.{atomically_text_step, atomically_step}
 use Rattle.stm_commands.specs.Blocks.{submit_text_step, submit_step}
 use Rattle.stm_commands.specs.Declaring.{declare_text_step, declare_step}
-use Rattle.stm_commands.specs.Checkpointing.{begun_anew, checkpoint_line, checkpoint_now, checkpoint_step}
+use Rattle.stm_commands.specs.Checkpointing.{begun_anew, checkpoint_line, bare_checkpoint_step, checkpoint_step}
 use Rattle.stm_events.specs.SlowSettle.{next_what}
 use Rattle.stm_events.specs.SlowDrain.{next_drain}
 use Rattle.stm_commands.specs.Endings.{finish_ticket_step, finish_step, cancel_ticket_step, cancel_step, settle_desk_step, settle_step, drain_desk_step, drain_step}
 use Rattle.stm_commands.specs.Evaluation.{eval_step, eval_desk_step}
 use Rattle.stm_commands.specs.Jobs.{take_jobs_step, take_step, job_at, deliver_job_step, deliver_step, queued_line, handed_back, handback_ticket_step, handback_step}
+use Rattle.stm_commands.specs.Labelling.{labelling, labelling_step, label_step}
 use Rattle.stm_commands.specs.OpenDesk.{HandedOut, OpenDesk, known, on_desk}
 use Rattle.stm_commands.specs.Refusals.{refused}
 use Rattle.stm_run.specs.Console.{command_named, state_after, initial_console, desk_step, command_step, word_step, class_step, step}
@@ -44,10 +45,11 @@ use Rattle.stm_run.specs.Laws.{state_after_lines}
 use Rattle.stm_run.specs.LineCheckpoints.{auto_checkpoint}
 use Rattle.stm_run.proofs.ArgumentCases.{either_has, number_has, nothing_has}
 use Rattle.stm_run.proofs.DeliveredJobs.{take_stands, delivered_stands, evaluated_stands}
-use Rattle.stm_run.proofs.DeskMoves.{submitted_stands, declared_stands, finished_stands, cancelled_stands}
+use Rattle.stm_run.proofs.DeskMoves.{submitted_stands, declared_stands, finished_stands, cancelled_stands, labelled_stands}
 use Rattle.stm_run.proofs.DeclaredVariables.{MayBeNext, may_be_next, LateOrTold, late_judged}
 use Rattle.stm_run.proofs.EventsOfConsole.{fits_more}
 use Rattle.stm_run.proofs.FitTables.{table_sound}
+use Rattle.stm_run.proofs.GivenLabels.{GivesLabel, gives_label}
 use Rattle.stm_run.proofs.RunAtOnce.{ran_stands}
 use Rattle.stm_run.proofs.LegalSettling.{next_allowed, drain_allowed, run_stands}
 use Rattle.stm_commands.proofs.KeptQueue.{tickets_marked, tickets_recalled}
@@ -97,11 +99,15 @@ handback_stands d jobs t k =
     either_has (λ (p : DeskView × List ℕ). Stands p.0 jobs) (is_out t d.pending) (handed_back d t, queued_line t) (d, refused (codes "NotOut"))
     (stands_marked d (marked t false d.pending) jobs (tickets_marked t false d.pending) k) k
 
+labelling_stands : (d : OpenDesk) (o : Option (ℕ × List ℕ)) → GivesLabel o → Stands d.desk d.jobs → StandsAfter (labelling_step d o)
+labelling_stands d (Some l) h k = labelled_stands d.desk d.jobs l.0 l.1 h (label_refusal d.desk l.0) refl k
+labelling_stands d None h k = k
+
 -- ---- checkpoints
 low_by : (n : ℕ) → nat_lt max_next n ≡ false → n ≤ max_next
 low_by n e = grind (arith, nat_tests)
 
-checkpoint_stands : (d : OpenDesk) → Stands d.desk d.jobs → StandsAfter (checkpoint_now d)
+checkpoint_stands : (d : OpenDesk) → Stands d.desk d.jobs → StandsAfter (bare_checkpoint_step d)
 checkpoint_stands d k = by (nat_lt max_next (state_of d.desk).next) refl
   where
     by : (b : Bool) → nat_lt max_next (state_of d.desk).next ≡ b
@@ -124,7 +130,7 @@ module _ (blocks : BlockAnswersAreRight) (declarations : DeclarationAnswersAreRi
   judged = compiled blocks declarations faults checked
 
   desk_stands : (d : OpenDesk) → Stands d.desk d.jobs → (c : Command) (argument : List ℕ) → StandsAfter (desk_step d c argument)
-  unfolding submit_step declare_step atomically_step take_step deliver_step handback_step eval_step finish_step cancel_step settle_step drain_step checkpoint_step
+  unfolding submit_step declare_step atomically_step take_step deliver_step handback_step eval_step finish_step cancel_step settle_step drain_step checkpoint_step label_step
   desk_stands d k Submit argument = submit_stands d.desk d.jobs (compiled_block (known d) argument) (judged (known d) argument) k
   desk_stands d k Declare argument = declare_stands d.desk d.jobs (late_variable_of (known d) argument) (late_judged declarations (known d) argument) k
   desk_stands d k Atomically argument = atomically_stands d.desk d.jobs (compiled_block (known d) argument) (judged (known d) argument) k
@@ -145,7 +151,8 @@ module _ (blocks : BlockAnswersAreRight) (declarations : DeclarationAnswersAreRi
   desk_stands d k Drain argument =
       nothing_has StandsAfter (on_desk d (drain_desk_step (requeued_all d.desk))) (d, argument_refused) argument (run_stands next_drain drain_allowed (d.desk.limit - length d.desk.history) d.jobs (requeued_all d.desk) (omega arith)
       (stands_marked d.desk (recalled d.desk.pending) d.jobs (tickets_recalled d.desk.pending) k)) k
-  desk_stands d k Checkpoint argument = nothing_has StandsAfter (checkpoint_now d) (d, argument_refused) argument (checkpoint_stands d k) k
+  desk_stands d k Checkpoint argument = nothing_has StandsAfter (bare_checkpoint_step d) (d, argument_refused) argument (checkpoint_stands d k) k
+  desk_stands d k Label argument = labelling_stands d (labelling argument) (gives_label argument) k
   desk_stands d k c argument = k
 
   tvar_reached : (s : Console) → IsReached s → (argument : List ℕ) → IsReached (tvar_step s argument).0

@@ -19,7 +19,8 @@ use Rattle.stm_eval.specs.Laws.{VerdictIsStable}
 use Rattle.stm_parse.specs.ParseFunction.{BlockAnswersAreRight, DeclarationAnswersAreRight}
 use Rattle.stm_events.specs.declared.event.Event.{Event}
 use Rattle.stm_events.specs.declared.event.What.{What}
-use Rattle.stm_events.specs.declared.event.What.TheVariants.{Submitted, Installed, Finished, Cancelled, Declared as DeclaredLate}
+use Rattle.stm_events.specs.declared.event.What.TheVariants.{Submitted, Installed, Finished, Cancelled, Declared as DeclaredLate, Labelled}
+use Rattle.stm_events.specs.Labels.{is_label}
 use Rattle.stm_events.specs.Laws.{AreRising}
 use Rattle.stm_events.specs.SlowDesk.{Waiter, Slow, find_waiter, without_waiter, stale_after, becomes_stale, max_cells, MayInstall, MayFinish, MayDeclareLate, Allows, LegalFrom, state_from, max_events, after}
 use Rattle.stm_events.specs.States.{IsPossible, IsLegalFrom}
@@ -126,6 +127,7 @@ allowed_small s (Installed t v) p small b a = small_of s.next t (waits_below (λ
 allowed_small s (Finished t v n stale) p small b a = finish_small s t n v stale (find_waiter t s.waiters) small b refl a
 allowed_small s (Cancelled t) p small b a = small_of s.next t (waits_below (λ w. Unit {0}) s.next t s.waiters (find_waiter t s.waiters) b refl a) small
 allowed_small s (DeclaredLate name kind value) p small b a = declared_small s name kind value p a
+allowed_small s (Labelled t label) p small b a = small_of s.next t (waits_below (λ w. is_label label ≡ true) s.next t s.waiters (find_waiter t s.waiters) b refl a) small
 
 legal_front : (s : Slow) (xs ys : List Event) → LegalFrom s (xs ++ ys) → LegalFrom s xs
 legal_front s [] ys l = tt

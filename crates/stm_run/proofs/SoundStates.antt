@@ -1,14 +1,15 @@
 -- The states that a console's desk may be in: events may go on from each, and all in it is well typed. Allowed events and checkpoints
 -- lead from one to another.
-use Rattle.std.proofs.Common.{◌≡◌, ℕ, ◌≤◌, List, [], ◌∷◌, Option, Some, None, refl, sym, subst, ◌∙◌, arith}
+use Rattle.std.proofs.Common.{◌≡◌, ℕ, ◌≤◌, List, [], ◌∷◌, Option, Some, None, refl, sym, ap, subst, ◌∙◌, arith}
 use Rattle.std.specs.Prelude.{IsSomeAnd}
 use Rattle.stm_terms.specs.declared.verdicts.Verdict.{Verdict}
 use Rattle.stm_store.specs.Cells.{plains, Fits, IsStore}
 use Rattle.stm_store.proofs.ApplyPreservesTyping.{kept_store}
 use Rattle.stm_events.specs.declared.event.Event.{Event}
 use Rattle.stm_events.specs.declared.event.What.{What}
-use Rattle.stm_events.specs.declared.event.What.TheVariants.{Submitted, Installed, Finished, Cancelled, Declared as DeclaredLate}
+use Rattle.stm_events.specs.declared.event.What.TheVariants.{Submitted, Installed, Finished, Cancelled, Declared as DeclaredLate, Labelled}
 use Rattle.stm_events.specs.declared.staleness.StalenessRule.TheVariants.{Changed}
+use Rattle.stm_events.specs.Labels.{Labels}
 use Rattle.stm_events.specs.Laws.{SubmitsWellTyped, SubmittedAreWellTyped}
 use Rattle.stm_events.specs.SlowDesk.{Waiter, Slow, find_waiter, after, declaration, MayFinish, Allows, state_from, LegalFrom}
 use Rattle.stm_events.specs.States.{IsPossible, IsTypedState, observed}
@@ -16,7 +17,8 @@ use Rattle.stm_events.proofs.Folds.{after-rule}
 use Rattle.stm_events.proofs.NamedVariables.{declaration_fits}
 use Rattle.stm_events.proofs.Possible.{possible_after}
 use Rattle.stm_events.proofs.TypedStores.{typed_after, typed_verdict}
-use Rattle.stm_machine.specs.Checkpoints.{IsCheckpoint, checkpoint_state, checkpoint_of, max_next}
+use Rattle.stm_machine.specs.Checkpoints.{IsCheckpoint, checkpoint_state, checkpoint_of, with_labels, max_next}
+use Rattle.stm_machine.proofs.CheckpointLabels.{same_state}
 use Rattle.stm_machine.proofs.CheckpointStates.{checkpoints_are_possible, checkpoints_are_unseen}
 
 pub record IsSound (s : Slow) : Type 0 where
@@ -42,6 +44,7 @@ store_after s (Finished t v n stale) p k i a = store_finished s t v n stale p k 
 store_after s (Cancelled t) p k i a = i
 store_after s (DeclaredLate name kind value) p k i a =
     let room = a.room in kept_store s.store (declaration kind value) (declaration_fits s name kind value p.named a) i (omega (arith, room))
+store_after s (Labelled t label) p k i a = i
 
 pub sound_after : (s : Slow) (what : What) → IsSound s → Allows s what → SubmitsWellTyped what → IsSound (after s what)
 sound_after s what k a w = record {
@@ -57,14 +60,17 @@ sound_from s [] k l w = k
 sound_from s (e ∷ es) k l w = sound_from (after s e.what) es (sound_after s e.what k l.0.what w.0) l.1 w.1
 
 -- ---- checkpoints
-pub is_checkpoint : (s : Slow) → IsSound s → s.next ≤ max_next → IsCheckpoint (checkpoint_of s)
+is_checkpoint : (s : Slow) → IsSound s → s.next ≤ max_next → IsCheckpoint (checkpoint_of s)
 is_checkpoint s k low = (checkpoints_are_unseen s k.possible k.typed k.rule low k.store).0
 
-pub unseen : (s : Slow) → IsSound s → s.next ≤ max_next → observed (checkpoint_state (checkpoint_of s)) ≡ observed s
-unseen s k low = (checkpoints_are_unseen s k.possible k.typed k.rule low k.store).1
+pub unseen : (labels : Labels) (s : Slow) → IsSound s → s.next ≤ max_next → observed (checkpoint_state (with_labels labels (checkpoint_of s))) ≡ observed s
+unseen labels s k low = ap observed (same_state labels (checkpoint_of s)) ∙ (checkpoints_are_unseen s k.possible k.typed k.rule low k.store).1
 
-pub sound_checkpoint : (s : Slow) → IsSound s → s.next ≤ max_next → IsSound (checkpoint_state (checkpoint_of s))
+sound_unlabelled : (s : Slow) → IsSound s → s.next ≤ max_next → IsSound (checkpoint_state (checkpoint_of s))
 unfolding checkpoint_of
-sound_checkpoint s k low =
+sound_unlabelled s k low =
     let both = checkpoints_are_possible (checkpoint_of s) (is_checkpoint s k low) in
     record { possible = both.0; typed = both.1; store = k.store; rule = refl }
+
+pub sound_checkpoint : (labels : Labels) (s : Slow) → IsSound s → s.next ≤ max_next → IsSound (checkpoint_state (with_labels labels (checkpoint_of s)))
+sound_checkpoint labels s k low = subst IsSound (sym (same_state labels (checkpoint_of s))) (sound_unlabelled s k low)

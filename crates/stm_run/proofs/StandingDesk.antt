@@ -14,10 +14,10 @@ use Rattle.stm_events.specs.SlowDesk.{Waiter, Slow, find_waiter, after, Allows, 
 use Rattle.stm_events.specs.States.{IsPossible, IsTicketOf, observed, IsLegalFrom}
 use Rattle.stm_events.proofs.Alike.{MayBeAlike, alike_from, alike_found, same_current}
 use Rattle.stm_events.proofs.Kept.{ticket_after}
-use Rattle.stm_machine.specs.Checkpoints.{CheckpointView, checkpoint_state, checkpoint_of, start_of, max_next}
+use Rattle.stm_machine.specs.Checkpoints.{CheckpointView, checkpoint_state, checkpoint_of, with_labels, start_of, max_next}
 use Rattle.stm_machine.specs.Machine.{event}
 use Rattle.stm_machine.specs.QueueAndIndex.{due_of}
-use Rattle.stm_desk.specs.DeskView.{DeskView, state_of, is_full, pending_after, with_event, checkpointed}
+use Rattle.stm_desk.specs.DeskView.{DeskView, state_of, labels_of, is_full, pending_after, with_event, checkpointed}
 use Rattle.stm_commands.specs.OpenDesk.{HandedOut}
 use Rattle.stm_commands.proofs.KeptQueue.{QueueKept, kept_event, kept_marks}
 use Rattle.stm_run.proofs.SoundStates.{IsSound, sound_from, sound_checkpoint, unseen}
@@ -140,12 +140,12 @@ pub stands_checkpointed : (d : DeskView) (jobs : List HandedOut) → (state_of d
 unfolding checkpoint_of
 stands_checkpointed d jobs low k =
     let s = state_of d in
-    let s' = checkpoint_state (checkpoint_of s) in
+    let s' = checkpoint_state (with_labels (labels_of d) (checkpoint_of s)) in
     let sound = stands_sound d jobs k in
-    let e : observed s ≡ observed s' = sym (unseen s sound low) in
+    let e : observed s ≡ observed s' = sym (unseen (labels_of d) s sound low) in
     let same : (t : ℕ) → MayBeAlike (find_waiter t s.waiters) (find_waiter t s'.waiters) = λ t. alike_found t s.waiters s'.waiters (alike_from s.waiters s'.waiters (ap (λ o. o.waiters) e)) in
     record {
-      start = sound_checkpoint s sound low;
+      start = sound_checkpoint (labels_of d) s sound low;
       low = low;
       legal = record { each = tt; few = omega arith };
       typed = tt;

@@ -13,8 +13,8 @@ use Rattle.stm_queue.specs.Queue.{Entry, recalled}
 use Rattle.stm_events.specs.SlowDesk.{find_waiter}
 use Rattle.stm_event_lines.specs.WholeBlocks.{CheckedAreWellTyped}
 use Rattle.stm_machine.specs.Checkpoints.{max_next}
-use Rattle.stm_machine.specs.JobsHandedOut.{sent}
-use Rattle.stm_desk.specs.DeskView.{DeskView, state_of, checkpointed}
+use Rattle.stm_machine.specs.JobsHandedOut.{sent, block_at}
+use Rattle.stm_desk.specs.DeskView.{DeskView, state_of, labels_of, checkpointed}
 use Rattle.stm_desk.specs.Refusals.{finish_refusal, cancel_refusal}
 use Rattle.stm_desk.specs.Settling.{requeued_all}
 use Rattle.stm_lines.specs.LineClass.{LineClass, TooLong, Silent, NotAscii, Words, line_class}
@@ -33,11 +33,12 @@ use Rattle.stm_events.specs.SlowDrain.{next_drain}
 use Rattle.stm_commands.specs.Endings.{finish_ticket_step, finish_step, cancel_ticket_step, cancel_step, settled_line, drained_line, settle_desk_step, settle_step, drain_desk_step, drain_step}
 use Rattle.stm_commands.specs.Evaluation.{eval_desk_step, eval_step}
 use Rattle.stm_commands.specs.Jobs.{max_jobs, taken, with_jobs, jobs_line, take_jobs_step, take_step, job_at, deliver_job_step, deliver_step, handback_ticket_step, handback_step}
+use Rattle.stm_commands.specs.Labelling.{labelling, labelling_step, label_step, block_text_line, block_answer, board_answer}
 use Rattle.stm_commands.specs.OpenDesk.{HandedOut, OpenDesk, on_desk}
 use Rattle.stm_commands.specs.Questions.{ready_answer}
 use Rattle.stm_commands.specs.Refusals.{refused}
 use Rattle.stm_run.specs.declared.command.Command.{Command}
-use Rattle.stm_run.specs.declared.command.Command.TheVariants.{Tvar, Declare, Try, Looks, Submit, Atomically, Take, Deliver, Handback, Eval, Finish, Cancel, Show, Reads, Store, Settle, Drain, History, Ready, Why, Events, Checkpoint}
+use Rattle.stm_run.specs.declared.command.Command.TheVariants.{Tvar, Declare, Try, Looks, Submit, Atomically, Take, Deliver, Handback, Eval, Finish, Cancel, Show, Reads, Store, Settle, Drain, History, Ready, Why, Events, Checkpoint, Label, Block as BlockCommand, Board}
 use Rattle.stm_run.specs.declared.console.Console.{Console}
 use Rattle.stm_run.specs.declared.console.Console.TheVariants.{Declaring, Open}
 use Rattle.stm_run.specs.Console.{command_named, answer_to, answers_to, state_after, initial_console, desk_step, command_step, word_step, class_step, step}
@@ -45,10 +46,12 @@ use Rattle.stm_run.specs.ConsoleState.{present_desk, is_open, events_of, with_ch
 use Rattle.stm_run.specs.Laws.{state_after_lines}
 use Rattle.stm_run.specs.LineCheckpoints.{auto_checkpoint, answers_by, command_checkpoints, word_checkpoints, class_checkpoints, line_checkpoints, Turn, turn_lines, refused_step, line_step}
 use Rattle.stm_run.specs.Unseen.{LookAlike, is_of_history, word_is_of_history, class_is_of_history, line_is_of_history, HaveRoom, CheckpointsAreUnseenByCommands}
-use Rattle.stm_run.proofs.AlikeSteps.{AlikeSteps, NotFull, submit_alike, declare_alike, atomically_alike, cancel_alike, finish_alike, handback_alike, deliver_alike, eval_alike, settle_order, drain_order, run_alike}
+use Rattle.stm_run.proofs.AlikeSteps.{AlikeSteps, NotFull, submit_alike, declare_alike, atomically_alike, cancel_alike, label_alike, finish_alike, handback_alike, deliver_alike, eval_alike, settle_order, drain_order, run_alike}
+use Rattle.stm_run.proofs.AlikeLabels.{labels_stay}
 use Rattle.stm_run.proofs.DeclaredVariables.{LateOrTold, late_judged}
+use Rattle.stm_run.proofs.GivenLabels.{GivesLabel, gives_label}
 use Rattle.stm_run.proofs.DeliveredJobs.{delivered_stands}
-use Rattle.stm_run.proofs.LookingAlike.{AlikeDesks, same_store, same_names, same_found, alike_pending, show_alike, reads_alike, ready_alike, jobs_alike}
+use Rattle.stm_run.proofs.LookingAlike.{AlikeDesks, same_store, same_names, same_found, alike_pending, show_alike, board_alike, text_alike, reads_alike, ready_alike, jobs_alike}
 use Rattle.stm_run.proofs.ReachedConsole.{IsReached, auto_reached, line_reached, start_reached, reached}
 use Rattle.stm_run.proofs.SoundStates.{unseen}
 use Rattle.stm_run.proofs.StandingDesk.{Stands, stands_sound, stands_checkpointed}
@@ -116,11 +119,16 @@ take_alike b d d' jobs n k =
     (cond {A = OpenDesk × List ℕ} c (record { desk = d'; jobs = jobs }, refused (codes "JobsFull")) (with_jobs (record { desk = d'; jobs = jobs }) ts, jobs_line (length jobs + 1) ts))) tickets
     (taken_alike b c d d' jobs (taken d n) k (jobs_line (length jobs + 1) (taken d n)))
 
+labelling_alike : (b : Bool) (d d' : DeskView) (jobs : List HandedOut) (o : Option (ℕ × List ℕ)) → GivesLabel o → Stands d jobs → AlikeDesks b d d'
+    → Follows b (labelling_step (record { desk = d; jobs = jobs }) o) (labelling_step (record { desk = d'; jobs = jobs }) o)
+labelling_alike b d d' jobs (Some l) h st k = λ n. stepped b _ _ _ _ (record { desks = k; jobs = refl }) (label_alike b d d' jobs l.0 l.1 h st k n)
+labelling_alike b d d' jobs None h st k = said b _ _ _ _ (record { desks = k; jobs = refl }) refl
+
 module _ (judged : (names : List Named) (text : List ℕ) → BlockOrTold names (compiled_block names text)) (late : (names : List Named) (text : List ℕ) → LateOrTold (late_variable_of names text)) (stable : VerdictIsStable) where
   -- with the same jobs
   desk_alike : (b : Bool) (d d' : DeskView) (jobs : List HandedOut) → Stands d jobs → AlikeDesks b d d' → (c : Command) → is_of_history c ≡ false → (argument : List ℕ)
       → Follows b (desk_step (record { desk = d; jobs = jobs }) c argument) (desk_step (record { desk = d'; jobs = jobs }) c argument)
-  unfolding declare_step try_answer looks_answer submit_step atomically_step take_step deliver_step handback_step eval_step finish_step cancel_step show_answer reads_answer store_answer settle_step drain_step ready_answer
+  unfolding declare_step try_answer looks_answer submit_step atomically_step take_step deliver_step handback_step eval_step finish_step cancel_step show_answer reads_answer store_answer settle_step drain_step ready_answer label_step block_answer board_answer
   desk_alike b d d' jobs st k Tvar h argument = said b _ _ _ _ (record { desks = k; jobs = refl }) refl
   desk_alike b d d' jobs st k Declare h argument = λ n.
       subst (λ (r : Result Declared Refusal). NotFull b (declare_text_step d (late_variable_of (state_of d).names argument)).1 (declare_text_step d' r).1
@@ -178,6 +186,12 @@ module _ (judged : (names : List Named) (text : List ℕ) → BlockOrTold names 
       (run_alike next_drain drain_order drained_line b (requeued_all d) (requeued_all d') (alike_pending b d d' (recalled d.pending) (recalled d'.pending) (ap recalled k.pending) k) m)) (said b _ _ _ _ (record { desks = k; jobs = refl }) refl)
   desk_alike b d d' jobs st k Ready h argument =
       said b _ _ _ _ (record { desks = k; jobs = refl }) (ap (λ (t : List ℕ). with_nothing t argument_refused argument) (ready_alike b d d' k))
+  desk_alike b d d' jobs st k Label h argument = labelling_alike b d d' jobs (labelling argument) (gives_label argument) st k
+  desk_alike b d d' jobs st k BlockCommand h argument =
+      said b _ _ _ _ (record { desks = k; jobs = refl })
+      (number_text (λ t. block_text_line t (block_at (state_of d) t)) (λ t. block_text_line t (block_at (state_of d') t)) (number_argument argument) (λ t. text_alike b d d' t k))
+  desk_alike b d d' jobs st k Board h argument =
+      said b _ _ _ _ (record { desks = k; jobs = refl }) (ap (λ (t : List ℕ). with_nothing t argument_refused argument) (board_alike b d d' k))
   desk_alike b d d' jobs st k History h argument = absurd (cc h)
   desk_alike b d d' jobs st k Why h argument = absurd (cc h)
   desk_alike b d d' jobs st k Events h argument = absurd (cc h)
@@ -234,6 +248,9 @@ no_checkpoint_by s Ready argument h = refl
 no_checkpoint_by s Why argument h = refl
 no_checkpoint_by s Events argument h = refl
 no_checkpoint_by s Checkpoint argument h = absurd (cc h)
+no_checkpoint_by s Label argument h = refl
+no_checkpoint_by s BlockCommand argument h = refl
+no_checkpoint_by s Board argument h = refl
 
 no_checkpoint_word : (s : Console) (o : Option Command) (argument : List ℕ) → word_is_of_history o ≡ false → word_checkpoints s o argument ≡ false
 no_checkpoint_word s None argument h = refl
@@ -265,14 +282,15 @@ checkpoint_alike b d d' jobs st low k = record {
   pending = k.pending;
   possible = k.possible;
   possible_too = (stands_sound (checkpointed d') jobs (stands_checkpointed d' jobs low st)).possible;
-  same = k.same ∙ sym (unseen (state_of d') (stands_sound d' jobs st) low);
+  same = k.same ∙ sym (unseen (labels_of d') (state_of d') (stands_sound d' jobs st) low);
+  labels = λ t. k.labels t ∙ sym (labels_stay d' jobs st t);
   fewer = λ e. omega arith;
 }
 
 itself_alike : (b : Bool) (d : DeskView) (jobs : List HandedOut) → Stands d jobs → AlikeDesks b d d
 itself_alike b d jobs st =
     let p = (stands_sound d jobs st).possible in
-    record { table = refl; limit = refl; pending = refl; possible = p; possible_too = p; same = refl; fewer = λ e. omega arith }
+    record { table = refl; limit = refl; pending = refl; possible = p; possible_too = p; same = refl; labels = λ t. refl; fewer = λ e. omega arith }
 
 -- ---- consoles that look alike
 from_look : (s s' : Console) → IsReached s → IsReached s' → LookAlike s s' → AlikeConsoles false s s'
@@ -286,6 +304,7 @@ from_look (Open d) (Open d') r r' k = record {
     possible = (stands_sound d.desk d.jobs r).possible;
     possible_too = (stands_sound d'.desk d'.jobs r').possible;
     same = k.observed_is;
+    labels = k.labels;
     fewer = λ e. absurd (cc e);
   };
   jobs = k.jobs;
@@ -302,6 +321,7 @@ to_look b (Open d) (Open d') k = record {
   pending = k.desks.pending;
   jobs = k.jobs;
   observed_is = k.desks.same;
+  labels = k.desks.labels;
 }
 
 module _ (blocks : BlockAnswersAreRight) (declarations : DeclarationAnswersAreRight) (faults : CheckNeverSaysNoMemory) (stable : VerdictIsStable) (checked : CheckedAreWellTyped) where

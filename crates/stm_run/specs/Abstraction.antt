@@ -6,7 +6,7 @@ use Rattle.stm_run.specs.Console.{on_console}
 use Rattle.stm_run.specs.ConsoleState.{present_desk, is_open}
 use Rattle.stm_run.specs.declared.reply.Reply.{Reply}
 use Rattle.stm_run.specs.declared.reply.Reply.TheVariants as reply
-use Rattle.stm_commands.specs.Checkpointing.{checkpoint_now}
+use Rattle.stm_commands.specs.Checkpointing.{bare_checkpoint_step}
 use Rattle.stm_commands.specs.Questions.{later_events_text}
 use Rattle.stm_commands.specs.Contents.{events_text}
 
@@ -40,7 +40,7 @@ abbrev pub IsAfterReply : Reply → Console → Console × List ℕ → Type 0
 IsAfterReply reply.Text c s = c ≡ s.0
 IsAfterReply reply.History c s = c ≡ s.0
 IsAfterReply (reply.Events n) c s = c ≡ s.0
-IsAfterReply reply.Checkpoint c s = (is_open c ≡ true) × (s ≡ on_console (checkpoint_now (present_desk c)))
+IsAfterReply reply.Checkpoint c s = (is_open c ≡ true) × (s ≡ on_console (bare_checkpoint_step (present_desk c)))
 
 -- this is the console, and the reply is what the step writes
 abbrev pub IsStep : Reply → List ℕ → List ℕ → Console → Console × List ℕ → Type 0

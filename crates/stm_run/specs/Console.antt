@@ -11,11 +11,12 @@ use Rattle.stm_commands.specs.Declaring.{declare_step}
 use Rattle.stm_commands.specs.Endings.{finish_step, cancel_step, settle_step, drain_step}
 use Rattle.stm_commands.specs.Evaluation.{eval_step}
 use Rattle.stm_commands.specs.Jobs.{take_step, deliver_step, handback_step}
+use Rattle.stm_commands.specs.Labelling.{label_step, block_answer, board_answer}
 use Rattle.stm_commands.specs.OpenDesk.{OpenDesk}
 use Rattle.stm_commands.specs.Questions.{ready_answer, why_answer, events_answer}
 use Rattle.stm_commands.specs.Refusals.{refused}
 use Rattle.stm_run.specs.declared.command.Command.{Command}
-use Rattle.stm_run.specs.declared.command.Command.TheVariants.{Tvar, Declare, Try, Looks, Submit, Atomically, Take, Deliver, Handback, Eval, Finish, Cancel, Show, Reads, Store, Settle, Drain, History, Ready, Why, Events, Checkpoint}
+use Rattle.stm_run.specs.declared.command.Command.TheVariants.{Tvar, Declare, Try, Looks, Submit, Atomically, Take, Deliver, Handback, Eval, Finish, Cancel, Show, Reads, Store, Settle, Drain, History, Ready, Why, Events, Checkpoint, Label, Block, Board}
 use Rattle.stm_run.specs.declared.console.Console.{Console}
 use Rattle.stm_run.specs.declared.console.Console.TheVariants.{Declaring, Open}
 use Rattle.stm_run.specs.ConsoleState.{present_desk}
@@ -28,7 +29,8 @@ command_words =
     ∷ (codes "reads", Reads) ∷ (codes "store", Store) ∷ (codes "history", History) ∷ (codes "ready", Ready) ∷ (codes "why", Why)
     ∷ (codes "events", Events) ∷ (codes "submit", Submit) ∷ (codes "atomically", Atomically) ∷ (codes "take", Take)
     ∷ (codes "deliver", Deliver) ∷ (codes "handback", Handback) ∷ (codes "eval", Eval) ∷ (codes "finish", Finish) ∷ (codes "cancel", Cancel)
-    ∷ (codes "settle", Settle) ∷ (codes "drain", Drain) ∷ (codes "checkpoint", Checkpoint) ∷ []
+    ∷ (codes "settle", Settle) ∷ (codes "drain", Drain) ∷ (codes "checkpoint", Checkpoint)
+    ∷ (codes "label", Label) ∷ (codes "block", Block) ∷ (codes "board", Board) ∷ []
 
 -- the command of a word, by some commands with their words
 abbrev pub command_in : List (List ℕ × Command) → List ℕ → Option Command
@@ -63,6 +65,9 @@ desk_step d Ready argument = (d, ready_answer d argument)
 desk_step d Why argument = (d, why_answer d argument)
 desk_step d Events argument = (d, events_answer d argument)
 desk_step d Checkpoint argument = checkpoint_step d argument
+desk_step d Label argument = label_step d argument
+desk_step d Block argument = (d, block_answer d argument)
+desk_step d Board argument = (d, board_answer d argument)
 
 -- a step of the desk, as one of the console: it is open from then on
 abbrev pub on_console : OpenDesk × List ℕ → Console × List ℕ

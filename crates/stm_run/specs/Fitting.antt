@@ -1,5 +1,5 @@
 -- The events of a console's desk, and its checkpoint, can be in lines of a history.
-use Rattle.std.specs.Prelude.{◌≡◌, ◌≤◌, ℕ, List, [], ◌∷◌, length, IfSome, Ok, ⊤}
+use Rattle.std.specs.Prelude.{◌≡◌, ◌≤◌, ℕ, List, [], ◌∷◌, length, IfSome, IsTrue, Ok, ⊤}
 use Rattle.stm_terms.specs.declared.values.Ref.TheVariants.{Old, New}
 use Rattle.stm_terms.specs.declared.values.Value.{Value}
 use Rattle.stm_terms.specs.declared.values.Value.TheVariants as value
@@ -8,7 +8,8 @@ use Rattle.stm_store.specs.Naming.{Named}
 use Rattle.stm_store.specs.Tables.{Declared}
 use Rattle.stm_events.specs.declared.event.Event.{Event}
 use Rattle.stm_events.specs.declared.event.What.{What}
-use Rattle.stm_events.specs.declared.event.What.TheVariants.{Submitted, Installed, Finished, Cancelled, Declared as DeclaredLate}
+use Rattle.stm_events.specs.declared.event.What.TheVariants.{Submitted, Installed, Finished, Cancelled, Declared as DeclaredLate, Labelled}
+use Rattle.stm_events.specs.Labels.{is_label}
 use Rattle.stm_events.specs.SlowDesk as slow
 use Rattle.stm_event_lines.specs.Fits.{Is32Bit, FitNumbers, FitsNames, FitsVerdict}
 use Rattle.stm_history.specs.Judgement.{AreVariables}
@@ -22,7 +23,8 @@ use Rattle.stm_run.specs.declared.console.Console.{Console}
 use Rattle.stm_run.specs.Laws.{state_after_lines}
 
 -- ---- what they are of
--- over the names, a block that is submitted is what its text checks to, and a variable is the one that some text declares
+-- over the names, a block that is submitted is what its text checks to, and a variable is the one that some text declares; and a block
+-- gets only a label
 abbrev pub IsOfText : List Named → What → Type 0
 IsOfText known (Submitted ticket block) = checked_block known block.text ≡ Ok block
 IsOfText known (Installed ticket v) = ⊤
@@ -30,6 +32,7 @@ IsOfText known (Finished ticket v first_new stale) = ⊤
 IsOfText known (Cancelled ticket) = ⊤
 IsOfText known (DeclaredLate name kind value) =
     (text : List ℕ) × (late_variable_of known text ≡ Ok (record { name = name; kind = kind; value = value }))
+IsOfText known (Labelled ticket label) = IsTrue (is_label label)
 
 -- each event, from a state on, is of client 0, and of a text over the names of the state before it
 abbrev pub AreOfConsole : slow.Slow → List Event → Type 0
@@ -81,6 +84,7 @@ AreNumbersSmall (Installed ticket v) = Is32Bit ticket
 AreNumbersSmall (Finished ticket v first_new stale) = Is32Bit ticket × Is32Bit first_new × FitNumbers stale
 AreNumbersSmall (Cancelled ticket) = Is32Bit ticket
 AreNumbersSmall (DeclaredLate name kind value) = (kind.refs ≤ most_refs) × IsReferenceSmall value
+AreNumbersSmall (Labelled ticket label) = Is32Bit ticket
 
 -- so of each event
 abbrev pub HaveSmallNumbers : List Event → Type 0
@@ -101,6 +105,7 @@ IsVerdictInRange (Installed ticket v) = FitsVerdict v
 IsVerdictInRange (Finished ticket v first_new stale) = FitsVerdict v
 IsVerdictInRange (Cancelled ticket) = ⊤
 IsVerdictInRange (DeclaredLate name kind value) = ⊤
+IsVerdictInRange (Labelled ticket label) = ⊤
 
 -- so of each event
 abbrev pub AreVerdictsInRange : List Event → Type 0

@@ -1,9 +1,10 @@
 -- Nobody can tell from an answer whether a checkpoint was made. The commands `history`, `events` and `why`, which speak of the events,
 -- and `checkpoint` are left aside, and so is the room that a history has for events.
 use Rattle.std.specs.Prelude.{◌≡◌, ◌⊎◌, ⊤, ℕ, ◌≤◌, Bool, true, false, List, [], ◌∷◌, ◌++◌, Option, Some, None, codes}
+use Rattle.stm_events.specs.Labels.{label_of}
 use Rattle.stm_events.specs.SlowDesk as slow
 use Rattle.stm_events.specs.States.{observed}
-use Rattle.stm_desk.specs.DeskView.{state_of}
+use Rattle.stm_desk.specs.DeskView.{state_of, labels_of}
 use Rattle.stm_lines.specs.LineClass.{LineClass, TooLong, Silent, NotAscii, Words, line_class}
 use Rattle.stm_commands.specs.Checkpointing.{are_tickets_full}
 use Rattle.stm_commands.specs.Refusals.{refused}
@@ -17,7 +18,8 @@ use Rattle.stm_run.specs.LineCheckpoints.{Turn, turn_lines, answers_by}
 
 -- ---- consoles that look alike
 -- Both desks are open on the same table, take as many events, have the same tickets queued and out and the same jobs, and the same is
--- observed of their states. Of the histories and of the checkpoints that they begin from nothing is said.
+-- observed of their states, whose blocks have the same labels. Of the histories and of the checkpoints that they begin from nothing is
+-- said.
 pub record LookAlike (s s' : Console) : Type 0 where
   pub opened : is_open s ≡ true
   pub opened_too : is_open s' ≡ true
@@ -26,6 +28,7 @@ pub record LookAlike (s s' : Console) : Type 0 where
   pub pending : (present_desk s).desk.pending ≡ (present_desk s').desk.pending
   pub jobs : (present_desk s).jobs ≡ (present_desk s').jobs
   pub observed_is : observed (state_of (present_desk s).desk) ≡ observed (state_of (present_desk s').desk)
+  pub labels : (t : ℕ) → label_of t (labels_of (present_desk s).desk) ≡ label_of t (labels_of (present_desk s').desk)
 
 -- ---- lines
 -- the command speaks of the events, or makes a checkpoint

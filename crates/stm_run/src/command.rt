@@ -28,6 +28,9 @@ pub enum Command {
     Why,
     Events,
     Checkpoint,
+    Label,
+    Block,
+    Board,
 }
 
 // The command of a word, of the first seven.
@@ -86,9 +89,9 @@ fn of_next_seven(word: &[u8]) -> Option<Command>
     None
 }
 
-// The command of a word, of the last eight.
-fn of_last_eight(word: &[u8]) -> Option<Command>
-    ensures { result ≡ command_in (drop 14 command_words) word.now }
+// The command of a word, of the third seven.
+fn of_third_seven(word: &[u8]) -> Option<Command>
+    ensures { result ≡ command_in (take 7 (drop 14 command_words)) word.now }
 {
     if word == b"deliver".as_slice() {
         return Some(Command::Deliver);
@@ -111,8 +114,24 @@ fn of_last_eight(word: &[u8]) -> Option<Command>
     if word == b"drain".as_slice() {
         return Some(Command::Drain);
     }
+    None
+}
+
+// The command of a word, of the last four.
+fn of_last_four(word: &[u8]) -> Option<Command>
+    ensures { result ≡ command_in (drop 21 command_words) word.now }
+{
     if word == b"checkpoint".as_slice() {
         return Some(Command::Checkpoint);
+    }
+    if word == b"label".as_slice() {
+        return Some(Command::Label);
+    }
+    if word == b"block".as_slice() {
+        return Some(Command::Block);
+    }
+    if word == b"board".as_slice() {
+        return Some(Command::Board);
     }
     None
 }
@@ -127,5 +146,8 @@ pub fn command_of(word: &[u8]) -> Option<Command>
     if let Some(command) = of_next_seven(word) {
         return Some(command);
     }
-    of_last_eight(word)
+    if let Some(command) = of_third_seven(word) {
+        return Some(command);
+    }
+    of_last_four(word)
 }

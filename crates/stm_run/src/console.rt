@@ -3,13 +3,14 @@
 ghost use Rattle.std.specs.Prelude.{◌≡◌, ◌++◌, [], true, false, not, length, Some, is_some, string_bytes, OnOk, OnErr, IfOk, IfSome};
 ghost use Rattle.stm_history.specs.HistoryText.{WritesText};
 ghost use Rattle.stm_commands.specs.Contents.{history_answer};
+ghost use Rattle.stm_commands.specs.Labelling.{label_step, block_answer, board_answer};
 ghost use Rattle.stm_commands.specs.OpenDesk.{Steps};
 ghost use Rattle.stm_commands.specs.Questions.{events_answer};
 ghost use Rattle.stm_run.specs.Abstraction.{IsReply, IsStep, history_of, later_events_of};
 ghost use Rattle.stm_run.specs.Console.{initial_console, command_named, desk_step, on_console, word_step, step};
-ghost use Rattle.stm_machine.specs.Checkpoints.{MayStart, checkpoint_of};
-ghost use Rattle.stm_desk.specs.DeskView.{state_of};
-ghost use Rattle.stm_commands.specs.Checkpointing.{are_tickets_full, checkpoint_now, checkpoint_step, makes_checkpoint};
+ghost use Rattle.stm_machine.specs.Checkpoints.{MayStart};
+ghost use Rattle.stm_desk.specs.DeskView.{checkpoint_now};
+ghost use Rattle.stm_commands.specs.Checkpointing.{are_tickets_full, bare_checkpoint_step, checkpoint_step, makes_checkpoint};
 ghost use Rattle.stm_run.specs.ConsoleState.{present_desk, is_open, table_of, events_of, with_checkpoint};
 ghost use Rattle.stm_run.specs.LineCheckpoints.{asks_checkpoint, reply_checkpoints, is_streamed, command_checkpoints, word_checkpoints, line_checkpoints};
 ghost use Rattle.stm_run.specs.Declaring.{tvar_line, tvar_step};
@@ -90,6 +91,39 @@ fn answer_checkpoint(desk: &OpenDesk, argument: &str, out: &mut String) -> Resul
     refuse_argument(out).and(Ok(Reply::Text))
 }
 
+/// Answers `label`.
+fn answer_label(desk: &mut OpenDesk, argument: &str, out: &mut String) -> Result<Reply, NoMemory>
+    ensures step { IfOk result (λ r. IsStep r (string_bytes out.old) (string_bytes out.new)
+        (IsOpen desk.new) (on_console (label_step desk.old argument.now))) }
+    ensures asked { IfOk result (λ r. asks_checkpoint r ≡ false) }
+    ensures made { IfOk result (λ r. reply_checkpoints desk.old r ≡ false) }
+    ensures streamed { IfOk result (λ r. is_streamed r ≡ false) }
+{
+    desk.answer_label(argument, out).and(Ok(Reply::Text))
+}
+
+/// Answers `block`.
+fn answer_block(desk: &OpenDesk, argument: &str, out: &mut String) -> Result<Reply, NoMemory>
+    ensures reply { IfOk result (λ r. IsReply r (string_bytes out.old) (string_bytes out.new)
+        (IsOpen desk.now) (block_answer desk.now argument.now)) }
+    ensures asked { IfOk result (λ r. asks_checkpoint r ≡ false) }
+    ensures made { IfOk result (λ r. reply_checkpoints desk.now r ≡ false) }
+    ensures streamed { IfOk result (λ r. is_streamed r ≡ false) }
+{
+    desk.answer_block(argument, out).and(Ok(Reply::Text))
+}
+
+/// Answers `board`.
+fn answer_board(desk: &OpenDesk, argument: &str, out: &mut String) -> Result<Reply, NoMemory>
+    ensures reply { IfOk result (λ r. IsReply r (string_bytes out.old) (string_bytes out.new)
+        (IsOpen desk.now) (board_answer desk.now argument.now)) }
+    ensures asked { IfOk result (λ r. asks_checkpoint r ≡ false) }
+    ensures made { IfOk result (λ r. reply_checkpoints desk.now r ≡ false) }
+    ensures streamed { IfOk result (λ r. is_streamed r ≡ false) }
+{
+    desk.answer_board(argument, out).and(Ok(Reply::Text))
+}
+
 /// Answers a command on the open desk, and starts no thread.
 fn answer_on_desk_here(
     desk: &mut OpenDesk,
@@ -110,6 +144,9 @@ fn answer_on_desk_here(
         Command::Checkpoint => return answer_checkpoint(desk, argument, out),
         Command::History => return answer_history(desk, argument, out),
         Command::Events => return answer_events(desk, argument, out),
+        Command::Label => return answer_label(desk, argument, out),
+        Command::Block => return answer_block(desk, argument, out),
+        Command::Board => return answer_board(desk, argument, out),
         Command::Tvar => refuse("Late", out),
         Command::Declare => desk.answer_declare(alloc, argument, out),
         Command::Try => desk.answer_try(alloc, argument, out),
@@ -358,7 +395,7 @@ impl Console {
     pub fn next_checkpoint(&self) -> Result<Option<Checkpoint>, NoMemory>
         requires { is_open self.now ≡ true }
         ensures made { IfOk result (λ o. is_some o ≡ not (are_tickets_full (present_desk self.now))) }
-        ensures taken { IfOk result (λ o. IfSome o (λ c. c ≡ checkpoint_of (state_of (present_desk self.now).desk))) }
+        ensures taken { IfOk result (λ o. IfSome o (λ c. c ≡ checkpoint_now (present_desk self.now).desk)) }
         ensures start { IfOk result (λ o. IfSome o (λ c. MayStart (table_of self.now) (Some c))) }
     {
         match self {
@@ -370,7 +407,7 @@ impl Console {
     /// Lets the history of the open desk begin from the checkpoint of its present state, and returns how many events it had.
     pub fn begin_from(&mut self, checkpoint: Checkpoint) -> u32
         requires open { is_open self.old ≡ true }
-        requires taken { checkpoint ≡ checkpoint_of (state_of (present_desk self.old).desk) }
+        requires taken { checkpoint ≡ checkpoint_now (present_desk self.old).desk }
         ensures count { result ≡ length (events_of self.old) }
         ensures begun { self.new ≡ with_checkpoint self.old }
     {
@@ -384,7 +421,7 @@ impl Console {
     pub fn answer_checkpoint(&mut self, out: &mut String) -> Result<(), NoMemory>
         requires { is_open self.old ≡ true }
         ensures { OnOk result (Steps self.new (string_bytes out.old) (string_bytes out.new)
-            (on_console (checkpoint_now (present_desk self.old)))) }
+            (on_console (bare_checkpoint_step (present_desk self.old)))) }
     {
         match self {
             Console::Declaring { .. } => unreachable!(),

@@ -13,9 +13,17 @@ returns-in-Some-of_next_seven c =
     sym (command_in-rest (take 7 command_words) (drop 7 command_words) c.args.word.now (sym c.in_default.ensures)
     ∙ command_in-first (take 7 (drop 7 command_words)) (drop 14 command_words) c.args.word.now c.in-Some-of_next_seven.command (sym c.in-Some-of_next_seven.ensures))
 
+pub returns-in-Some-of_third_seven : goal.returns-in-Some-of_third_seven
+unfolding command_named
+returns-in-Some-of_third_seven c =
+    sym (command_in-rest (take 7 command_words) (drop 7 command_words) c.args.word.now (sym c.in_default.ensures)
+    ∙ command_in-rest (take 7 (drop 7 command_words)) (drop 14 command_words) c.args.word.now (sym c.in_default-of_next_seven.ensures)
+    ∙ command_in-first (take 7 (drop 14 command_words)) (drop 21 command_words) c.args.word.now c.in-Some-of_third_seven.command (sym c.in-Some-of_third_seven.ensures))
+
 pub returns : goal.returns
 unfolding command_named
 returns c =
-    c.of_last_eight.ensures
+    c.of_last_four.ensures
     ∙ sym (command_in-rest (take 7 command_words) (drop 7 command_words) c.args.word.now (sym c.in_default.ensures)
-    ∙ command_in-rest (take 7 (drop 7 command_words)) (drop 14 command_words) c.args.word.now (sym c.in_default-of_next_seven.ensures))
+    ∙ command_in-rest (take 7 (drop 7 command_words)) (drop 14 command_words) c.args.word.now (sym c.in_default-of_next_seven.ensures)
+    ∙ command_in-rest (take 7 (drop 14 command_words)) (drop 21 command_words) c.args.word.now (sym c.in_default-of_third_seven.ensures))
