@@ -56,8 +56,8 @@ extern "C" {
 ** The version of the library that this header belongs to: as a text, and as the number 1000000 * major + 1000 * minor + patch, which #if can
 ** compare. stmdesk_version has that of the library that runs.
 */
-#define STMDESK_VERSION "0.16.0"
-#define STMDESK_VERSION_NUMBER 16000
+#define STMDESK_VERSION "0.17.0"
+#define STMDESK_VERSION_NUMBER 17000
 
 /*
 ** Sets *version to the version of the library, a text that a byte 0 ends, as STMDESK_VERSION is. It is never freed and never changes. The
@@ -199,8 +199,8 @@ enum {
 };
 
 /*
-** What is asked of an exploration: the options of `./stmdesk explore`. Version 0.14.0 has no `trace`, and padding in its place: compile
-** again what was compiled with its header.
+** What is asked of an exploration: the options of `./stmdesk explore`. Version 0.14.0 has padding in place of `trace`, and up to 0.16.0 this
+** ends before `progress`: compile again what was compiled with an older header.
 */
 typedef struct {
     uint32_t max_states; /* how many states are kept at most; `./stmdesk explore` keeps 1,000,000. With 0 none is looked at */
@@ -208,6 +208,7 @@ typedef struct {
     bool all;            /* whether each state is met and counted, also those that can't matter */
     bool allow_throws;   /* whether no throw of a block is a fault */
     bool trace;          /* whether after a fault the text says what each step of its order does, and the last store; not with `history` */
+    bool progress;       /* whether it is a fault if a client can't ever do its next step again; then each state is met and counted, too */
 } stmdesk_explore_options;
 
 /* What an exploration found besides its text. stmdesk_explore sets both, whatever its status is. */

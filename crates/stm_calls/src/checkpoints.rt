@@ -16,7 +16,7 @@ use std::alloc::{AllocError, Global};
 use std::fmt::Write;
 use stm_check::SharedBlock;
 use stm_events::status::Status;
-use stm_events::{Delivery, SharedVerdict};
+use stm_events::{Delivery, LabelTable, SharedName, SharedVerdict};
 use stm_machine::{AddError, Checkpoint, CheckpointBlock, CheckpointError, Machine};
 use stm_store::{Names, Store, Table};
 use stm_terms::text::write_writes;
@@ -62,7 +62,7 @@ fn add(
     delivery: Option<Delivery>,
     out: &mut String,
 ) -> Result<(), AllocError> {
-    match checkpoint.add(alloc, ticket, block, delivery) {
+    match checkpoint.add(alloc, ticket, block, delivery, SharedName::none()) {
         Ok(()) => say("done", out),
         Err(AddError::NoMemory) => Err(AllocError),
         Err(refusal) => writeln!(out, "refused {refusal:?}"),
@@ -175,7 +175,7 @@ fn say_taken(machine: &Machine, alloc: Global, out: &mut String) -> Result<(), A
     requires { (s : Slow) × IsAt machine.now s × IsTypedState s
         × (s.rule ≡ StalenessRule.Changed) }
 {
-    match machine.checkpoint(alloc) {
+    match machine.checkpoint(alloc, &LabelTable::empty(alloc)) {
         Ok(taken) => say_checkpoint(&taken, out),
         Err(CheckpointError::NoMemory) => Err(AllocError),
         Err(refusal) => writeln!(out, "refused {refusal:?}"),

@@ -104,6 +104,7 @@ fn say_event(event: &Event, out: &mut String) -> Result<(), AllocError> {
             stale,
         } => say_finished(*ticket, verdict, *first_new, stale, out),
         What::Declared { name, kind, value } => say_declared(name.as_str(), *kind, *value, out),
+        What::Labelled { ticket, label } => writeln!(out, "labelled {ticket} {}", label.as_str()),
     }
 }
 

@@ -8,7 +8,8 @@ use std::io;
 use std::io::{ErrorKind, Write};
 use stm_desk::Desk;
 use stm_history::{
-    HistoryFault, Legal, LoadFault, WriteFault, check_history, load_history, replay, write_history,
+    HistoryFault, Legal, LoadFault, WriteFault, check_history, labels_after_history, load_history,
+    replay, write_history,
 };
 use stm_store::Seed;
 
@@ -119,7 +120,8 @@ fn resume(
     match load_history(alloc, Seed::fixed(), &mut reader) {
         Ok(loaded) => {
             let (table, checkpoint, events, machine) = loaded.into_parts();
-            match Desk::resume(table, checkpoint, events, machine, limit) {
+            let labels = labels_after_history(alloc, checkpoint.as_ref(), events.as_slice())?;
+            match Desk::resume(table, checkpoint, events, machine, labels, limit) {
                 Ok(desk) => {
                     desks.replace(desk);
                     say("done", out)

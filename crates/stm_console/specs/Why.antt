@@ -2,12 +2,12 @@
 use Rattle.std.specs.Prelude.{◌≡◌, ◌⊎◌, ℕ, List, [], ◌∷◌, ◌++◌, codes, decimal, string_bytes}
 use Rattle.stm_terms.specs.Texts.{IsPrefixOf}
 use Rattle.stm_history.specs.declared.files.explanation.CallRefusal.{CallRefusal}
-use Rattle.stm_history.specs.declared.files.explanation.CallRefusal.TheVariants.{Submission, Delivery, Finish, Cancellation, Declaration}
+use Rattle.stm_history.specs.declared.files.explanation.CallRefusal.TheVariants.{Submission, Delivery, Finish, Cancellation, Declaration, Labelling}
 use Rattle.stm_history.specs.declared.files.explanation.Explanation.{Explanation}
 use Rattle.stm_history.specs.declared.files.explanation.Explanation.TheVariants.{Expected, Refused, Unreadable}
 use Rattle.stm_history.specs.declared.files.fault.HistoryFault.TheVariants as fault
 use Rattle.stm_history.specs.Explanation.{ReportsWhy}
-use Rattle.stm_commands.specs.Refusals.{submit_error_text, deliver_error_text, finish_error_text, cancel_error_text, late_declare_error_text}
+use Rattle.stm_commands.specs.Refusals.{submit_error_text, deliver_error_text, finish_error_text, cancel_error_text, late_declare_error_text, label_error_text}
 use Rattle.stm_console.specs.declared.checking.Finding.{Finding}
 use Rattle.stm_console.specs.declared.checking.Finding.TheVariants.{Legal, BadHeader, BadLine, NotLegal}
 use Rattle.stm_console.specs.Checking.{IsFinding, finding_text}
@@ -19,6 +19,7 @@ call_refusal_text (Delivery error) = deliver_error_text error
 call_refusal_text (Finish error) = finish_error_text error
 call_refusal_text (Cancellation error) = cancel_error_text error
 call_refusal_text (Declaration error) = late_declare_error_text error
+call_refusal_text (Labelling error) = label_error_text error
 
 -- the line that is printed of an explanation
 abbrev pub explanation_text : Explanation → List ℕ

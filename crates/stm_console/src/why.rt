@@ -11,7 +11,8 @@ use crate::checking::{Finding, write_finding};
 use std::alloc::Global;
 use std::io::{ErrorKind, Read, Write};
 use stm_commands::refusals::{
-    refuse_cancel, refuse_delivery, refuse_finish, refuse_late_declaration, refuse_submit,
+    refuse_cancel, refuse_delivery, refuse_finish, refuse_label, refuse_late_declaration,
+    refuse_submit,
 };
 use stm_history::{CallRefusal, Explanation, HistoryFault, Reason, why_history};
 use stm_lines::RunFault;
@@ -55,6 +56,7 @@ fn write_refusal(refusal: CallRefusal, out: &mut String) -> Result<(), NoMemory>
         CallRefusal::Finish(error) => refuse_finish(error, out),
         CallRefusal::Cancellation(error) => refuse_cancel(error, out),
         CallRefusal::Declaration(error) => refuse_late_declaration(error, out),
+        CallRefusal::Labelling(error) => refuse_label(error, out),
     }
 }
 

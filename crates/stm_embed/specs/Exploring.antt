@@ -11,7 +11,14 @@ use Rattle.stm_embed.specs.declared.exploring.Wanted.{Wanted}
 use Rattle.stm_embed.specs.Status.{bad_script, faulty, incomplete, no_room, right}
 
 abbrev pub explore_options : Wanted → ExploreOptions
-explore_options w = record { max_states = w.max_states; history = w.history; all = w.all; allow_throws = w.allow_throws; trace = w.trace }
+explore_options w = record {
+  max_states = w.max_states;
+  history = w.history;
+  all = w.all;
+  allow_throws = w.allow_throws;
+  trace = w.trace;
+  progress = w.progress;
+}
 
 -- what is written of an outcome that is no fault: what was found; if the history of a fault is asked for, nothing
 abbrev pub WritesNoFault : Bool → List ℕ → ExploreOptions → (Outcome → Type 0) → List ℕ → Type 0

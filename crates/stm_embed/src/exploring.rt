@@ -25,6 +25,8 @@ pub struct Wanted {
     pub allow_throws: bool,
     /// Whether what each step of a fault's order does is written, too, and the last store.
     pub trace: bool,
+    /// Whether it is a fault if a client can't ever do its next step again.
+    pub progress: bool,
 }
 
 impl Wanted {
@@ -38,6 +40,7 @@ impl Wanted {
             all: self.all,
             allow_throws: self.allow_throws,
             trace: self.trace,
+            progress: self.progress,
         }
     }
 }

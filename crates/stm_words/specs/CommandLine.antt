@@ -93,7 +93,8 @@ search_command = with_rule (with_rule (with_rule (new_app (codes "explore"))
 
 -- `explore` with its options
 abbrev pub explore_command : App
-explore_command = with_rule (with_rule search_command (flag_option (codes "allow-throws"))) (flag_option (codes "trace"))
+explore_command =
+    with_rule (with_rule (with_rule search_command (flag_option (codes "allow-throws"))) (flag_option (codes "trace"))) (flag_option (codes "progress"))
 
 -- `check` with its option
 abbrev pub check_command : App
@@ -237,6 +238,7 @@ explore_options_said rows = record {
   all = flag_said (codes "all") rows;
   allow_throws = flag_said (codes "allow-throws") rows;
   trace = flag_said (codes "trace") rows;
+  progress = flag_said (codes "progress") rows;
 }
 
 -- a check, with what would be accepted instead if that is said

@@ -90,8 +90,15 @@ Commands on standard input, one per line. A line that begins with `--` is a comm
       finish 1
   cancel T                    Removes a block from the desk: `cancelled 2`
       cancel 2
+  label T NAME                Gives a block that waits a label, without blanks, or takes its label away if there is no NAME:
+                              `labelled 3 job7`
+      label 3 job7
   show                        Prints each waiting ticket as `1 new`, `1 current VERDICT` or `1 stale VERDICT`, then `waiting 1`
       show
+  board                       Prints each waiting ticket as `show` does, and then its label or `-`: `1 new job7`, then `waiting 1`
+      board
+  block T                     Prints the text of the block under a ticket, on one line: `block 3 do { .. }`
+      block 3
   ready                       Prints the tickets that can be finished now, those that are current and don't block: `ready 3 7 9`
       ready
   reads T                     Prints what the block under a ticket read at its last evaluation: `reads #0=1`
@@ -158,10 +165,11 @@ depend on which thread comes first. The number of an option may begin with `+` o
 docs/STORM.md describes scripts in full.";
 
 const EXPLORATION: &str = "\
-A script on standard input, as for `stmdesk storm`, with invariants before the first section, and checks in sections:
+A script on standard input, as for `stmdesk storm`, with invariants and goals before the first section, and checks in sections:
   tvar NAME : TYPE = INIT  Declares a variable
   always BLOCK             In every state the block has to commit with the result True; what it writes counts for nothing
   never BLOCK              In every state the block has to retry
+  eventually BLOCK         From every state one has to be reachable in which the block commits with the result True
   client                   Begins the section of the next client
   submit BLOCK             Names the next block of the client; this is no step
   finish K                 A step: finishes the block of the section's K-th `submit`, and waits while the block retries. A block that
@@ -176,8 +184,10 @@ Each client does its steps in their order, and every interleaving of the clients
 matter to the others until later, it may be left for later, unless `--all` is given. Prints how many states were met and how many
 steps lead on from them, how many states have ended, with the stores of the first ten, and then `right`, `incomplete` if there are
 more states than may be kept, or the first fault by the fewest steps: `broken line L` (an invariant), `missed line L` (an `expect`),
-`failed line L` (an `assert`), `threw line L` (a `finish`), or `deadlock`. A fault is followed by the order of the clients' steps
-that leads there, by a line `chose line L VALUE` for each choice on the way, and by the line at which each client is.
+`failed line L` (an `assert`), `threw line L` (a `finish`), or `deadlock`. If none of these is found, `never reached line L` says that
+from a state on no order meets an `eventually`, and with `--progress` `stuck client C` that the client never does its next step again.
+With either all states are searched. A fault is followed by the order of the clients' steps that leads there, by a line
+`chose line L VALUE` for each choice on the way, and by the line at which each client is.
 
 Example:
   $ printf 'tvar x : Int = 0\\nalways do { a <- readTVar x; return (a < 2) }\\nclient\\nsubmit writeTVar x 1\\nfinish 1\\n' | stmdesk explore
@@ -228,6 +238,8 @@ const ALL: &str = "Explores every state, and leaves no client for later";
 const ALLOW_THROWS: &str = "Takes no throw of a block for a fault";
 
 const TRACE: &str = "Prints after a fault what each step of its order does, and the last store";
+
+const PROGRESS: &str = "Asks from every state whether each client can still do its next step";
 
 const JOURNAL: &str = "Keeps the history in FILE, and goes on from what is in it";
 
@@ -416,7 +428,11 @@ fn explore_words<'a>(alloc: Global) -> Result<Command<'a>, AllocError>
 {
     let allow_throws = flag_option(alloc, "allow-throws", ALLOW_THROWS);
     let trace = flag_option(alloc, "trace", TRACE);
-    search_words(alloc)?.arg(allow_throws)?.arg(trace)
+    let progress = flag_option(alloc, "progress", PROGRESS);
+    search_words(alloc)?
+        .arg(allow_throws)?
+        .arg(trace)?
+        .arg(progress)
 }
 
 /// The program with its version and the commands that take the options of a run: `run`, which is the default, and `storm`.
@@ -565,6 +581,7 @@ fn explore_options_of(matches: &ArgMatches) -> ExploreOptions
         all: flag_of(matches, "all"),
         allow_throws: flag_of(matches, "allow-throws"),
         trace: flag_of(matches, "trace"),
+        progress: flag_of(matches, "progress"),
     }
 }
 
