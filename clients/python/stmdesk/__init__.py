@@ -16,7 +16,7 @@ type if a block could return either. docs/CONSOLE.md says what each command does
 feed in a block is a blank.
 
 `Desk.atomically` runs a block and waits while it retries; `Desk.batch` gives many commands in one go; `Desk.ready` says which
-tickets can be finished, `Desk.why` what one waits for, and `Desk.events` what has happened since; `Desk(journal=PATH)` keeps
+tickets can be finished, `Desk.why` what one waits for, `Desk.board` who waits for what, and `Desk.events` what has happened since; `Desk(journal=PATH)` keeps
 the history in a file, and goes on from there at the next start; `Desk.checkpoint` lets the events so far go; `stmdesk.aio` is the same for asyncio. `explore` needs no desk:
 it tries every order of the steps of a script's clients; and `check` judges a history in a file. `connect(PATH)` is a desk at a server, which
 several processes share (docs/SERVER.md); `python -m stmdesk.server` is that server.
@@ -45,18 +45,18 @@ from ._explore import ClientAt, ClientState, Exploration, LineWarning, Outcome, 
 from ._local import find_library
 from ._program import find_program
 from ._values import (
-    Blocks, Cancellation, Cell, Change, Commits, Current, Declaration, Delivery, Event, Events, Fault, FinalCell, FinalStore, Finish,
-    Finished, FinishedThrows, Job, New, NewRef, Ready, Reason, Ref, Settled, Stale, StaleBefore, StaleBy, Status, Store, Submission,
-    Throws, Value, Verdict, Waiting, Waits,
+    Blocks, Cancellation, Cell, Change, Commits, Current, Declaration, Delivery, Entry, Event, Events, Fault, FinalCell, FinalStore, Finish,
+    Finished, FinishedThrows, Job, Labelling, New, NewRef, Ready, Reason, Ref, Settled, Stale, StaleBefore, StaleBy, Status, Store,
+    Submission, Throws, Value, Verdict, Waiting, Waits,
 )  # fmt: skip
 
-__version__ = "0.16.0"
+__version__ = "0.17.0"
 
 __all__ = [
     "Answer", "BadAnswer", "Batch", "Blocks", "Cancellation", "Cancelled", "Cell", "Change", "Checked", "ClientAt", "ClientState", "Commits",
-    "Current", "Declaration", "Delivery", "Desk", "DeskClosed", "DeskError", "Ended", "Event", "Events", "Exploration", "Fault", "FinalCell",
+    "Current", "Declaration", "Delivery", "Desk", "DeskClosed", "DeskError", "Ended", "Entry", "Event", "Events", "Exploration", "Fault", "FinalCell",
     "FinalStore", "Finding",
-    "Finish", "Finished", "FinishedThrows", "Job", "JournalError", "LineWarning", "New", "NewRef", "OutOfMemory", "Outcome", "OutcomeUnknown", "Ready", "Reason",
+    "Finish", "Finished", "FinishedThrows", "Job", "JournalError", "Labelling", "LineWarning", "New", "NewRef", "OutOfMemory", "Outcome", "OutcomeUnknown", "Ready", "Reason",
     "Ref", "Refused", "ScriptRefused", "Settled", "Stale", "StaleBefore", "StaleBy", "Status", "Stopped", "Store", "Submission", "Thrown", "Throws",
     "TimedOut", "TraceStep", "Value", "Verdict", "Waiting", "Waits", "check", "connect", "explore", "find_library", "find_program",
     "or_else",

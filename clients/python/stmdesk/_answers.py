@@ -10,8 +10,8 @@ from typing import Any
 from ._errors import Refused, Stopped
 from ._hints import JOURNAL, SERVER, hint
 from ._values import (
-    Blocks, Cancellation, Cell, Change, Commits, Current, Declaration, Delivery, Event, Events, Fault, FinalCell, FinalStore, Finish,
-    Finished, FinishedThrows, Job, New, NewRef, Ready, Reason, Ref, Settled, Stale, StaleBefore, StaleBy, Status, Store, Submission, Throws,
+    Blocks, Cancellation, Cell, Change, Commits, Current, Declaration, Delivery, Entry, Event, Events, Fault, FinalCell, FinalStore, Finish,
+    Finished, FinishedThrows, Job, Labelling, New, NewRef, Ready, Reason, Ref, Settled, Stale, StaleBefore, StaleBy, Status, Store, Submission, Throws,
     Value, Verdict, Waiting, Waits,
 )  # fmt: skip
 
@@ -146,6 +146,14 @@ class Answers:
         """The lines of `show`"""
         return [self.status(line.split(" ")) for line in counted(lines)]
 
+    def board(self, lines: Sequence[str]) -> list[Entry]:
+        """The lines of `board`: each is one of `show`, with a label or `-` after it"""
+        entries = []
+        for line in counted(lines):
+            *words, label = line.split(" ")
+            entries.append(Entry(self.status(words), None if label == "-" else label))
+        return entries
+
     def waiting(self, lines: Sequence[str]) -> list[int]:
         """The tickets of the lines of `show`"""
         return [int(line.partition(" ")[0]) for line in counted(lines)]
@@ -224,6 +232,18 @@ class Answers:
         """The number after the first word, as in `ticket 1` and `checkpoint 12`"""
         return int(words[1])
 
+    def labelled(self, words: Sequence[str]) -> None:
+        """`labelled 3 job7`, or `labelled 3 -`: the ticket and the label are those of the command."""
+        _, ticket, _ = words
+        int(ticket)
+
+    def block(self, words: Sequence[str]) -> str:
+        """`block 3 do { .. }`: the text after the ticket, byte for byte"""
+        int(words[1])
+        if len(words) < 3:
+            raise ValueError("no block")
+        return " ".join(words[2:])
+
     def nothing(self, words: Sequence[str]) -> None:
         """`queued 1` or `cancelled 1`: the number is that of the command."""
         int(words[1])
@@ -278,6 +298,8 @@ class Answers:
             return Finish(*head, self.recorded_verdict(found["verdict"]), found["first_new"], found["stale"])
         if kind == "cancelled":
             return Cancellation(*head)
+        if kind == "labelled":
+            return Labelling(*head, found["label"] or None)
         raise ValueError("no event")
 
     def recorded_verdict(self, found: Any) -> Verdict:

@@ -7,10 +7,10 @@ from types import TracebackType
 from typing import Any, TypeVar
 
 from ._commands import (
-    ATOMICALLY, CANCEL, CHECKPOINT, DECLARE, DELIVER, DRAIN, EVAL, EVENTS, FINISH, HANDBACK, HISTORY, LOOKS, READS, READY, SETTLE, SHOW, STORE,
-    SUBMIT, TAKE, TRY, TVAR, WHY, Answer, Command, decimal, number_of,
+    ATOMICALLY, BLOCK, BOARD, CANCEL, CHECKPOINT, DECLARE, DELIVER, DRAIN, EVAL, EVENTS, FINISH, HANDBACK, HISTORY, LABEL, LOOKS, READS, READY,
+    SETTLE, SHOW, STORE, SUBMIT, TAKE, TRY, TVAR, WHY, Answer, Command, decimal, labelling, number_of,
 )  # fmt: skip
-from ._values import Events, Finished, FinishedThrows, Job, Reason, Ref, Settled, Status, Store, Value, Verdict, Waiting
+from ._values import Entry, Events, Finished, FinishedThrows, Job, Reason, Ref, Settled, Status, Store, Value, Verdict, Waiting
 
 T = TypeVar("T")
 
@@ -117,6 +117,25 @@ class Commands:
     def why(self, ticket: int) -> Answer[Reason]:
         """`Desk.why`, when the batch is sent."""
         return self._add(WHY, decimal(ticket))
+
+    def label(self, block: Waiting | int, label: str | None) -> Answer[None]:
+        """`Desk.label`, when the batch is sent.
+
+        >>> ticket = desk.submit("retry")
+        >>> with desk.batch() as batch:
+        ...     labelled, board = batch.label(ticket, "job7"), batch.board()
+        >>> board.result()
+        [Entry(status=New(ticket=1), label='job7', block=None, why=None)]
+        """
+        return self._add(LABEL, labelling(block, label))
+
+    def block(self, ticket: int) -> Answer[str]:
+        """`Desk.block`, when the batch is sent."""
+        return self._add(BLOCK, decimal(ticket))
+
+    def board(self) -> Answer[list[Entry]]:
+        """The console's `board`, when the batch is sent: what `Desk.board` returns, without texts and reasons."""
+        return self._add(BOARD)
 
     def store(self) -> Answer[Store]:
         """`Desk.store`, when the batch is sent."""

@@ -13,12 +13,14 @@ from typing import Generic, TypeVar
 from ._answers import Answers
 from ._errors import Refused
 from ._transport import Odd, Transport
-from ._values import Events, Finished, FinishedThrows, Job, Reason, Ref, Settled, Status, Store, Value, Verdict, Waiting
+from ._values import Entry, Events, Finished, FinishedThrows, Job, Reason, Ref, Settled, Status, Store, Value, Verdict, Waiting
 
 # How many tickets wait, variables are, and events happen at most.
 WAITING_LIMIT = 65_536
 CELLS_LIMIT = 1_000_000
 EVENTS_LIMIT = 1_048_576
+
+LABEL_LENGTH = 64  # characters that a label has at most
 
 _CONTROL = re.compile(r"[\x00-\x08\x0b\x0c\x0e-\x1f\x7f]|\r(?!\n)")  # all but the tab, the line feed and CR LF
 
@@ -123,6 +125,26 @@ def number_of(job: Job | int) -> str:
     return decimal(job.number if isinstance(job, Job) else job)
 
 
+def ticket_of(block: Waiting | int) -> str:
+    """The ticket of a block as an argument."""
+    return decimal(block.ticket if isinstance(block, Waiting) else block)
+
+
+def checked_label(label: str) -> str:
+    """The label. Raises ValueError if no block can have it, and TypeError if it is no text."""
+    if not isinstance(label, str):
+        raise TypeError(f"a label is a text, and not {label!r}")
+    if not 0 < len(label) <= LABEL_LENGTH or label == "-" or not all("!" <= it <= "~" for it in label):
+        said = f"{label[:LABEL_LENGTH]!r}{'..' if len(label) > LABEL_LENGTH else ''}"
+        raise ValueError(f"{said} is no label: that has 1 to {LABEL_LENGTH} characters of ASCII, no blank, and isn't '-'")
+    return label
+
+
+def labelling(block: Waiting | int, label: str | None) -> str:
+    """The argument of `label` that gives a block this label, or takes its label away."""
+    return ticket_of(block) if label is None else f"{ticket_of(block)} {checked_label(label)}"
+
+
 def _lines_to(last: str, begin: tuple[str, ...], limit: Callable[[], int]) -> Callable[[Transport, str], list[str]]:
     """Takes the lines up to the one that begins with `last`, at most `limit` before it, each of which begins with one of
     `begin`."""
@@ -163,6 +185,8 @@ CANCEL: Command[None] = Command("cancel", Answers.nothing, "cancelled", is_seen=
 READS: Command[dict[Ref, Value]] = Command("reads", Answers.reads, "reads")
 READY: Command[list[int]] = Command("ready", Answers.tickets, "ready")
 WHY: Command[Reason] = Command("why", Answers.reason, "why")
+LABEL: Command[None] = Command("label", Answers.labelled, "labelled")
+BLOCK: Command[str] = Command("block", Answers.block, "block")
 SETTLE: Command[Settled] = Command("settle", Answers.settled, is_seen=True)
 DRAIN: Command[Settled] = Command("drain", Answers.drained, is_seen=True)
 CHECKPOINT: Command[int] = Command("checkpoint", Answers.second, "checkpoint", is_seen=True)
@@ -171,6 +195,7 @@ SHOW: Command[list[Status]] = Command(
 )
 # The tickets alone of what `show` prints.
 WAITING: Command[list[int]] = Command("show", Answers.waiting, take=SHOW.take)
+BOARD: Command[list[Entry]] = Command("board", Answers.board, take=SHOW.take)
 STORE: Command[Store] = Command("store", Answers.cells, take=_lines_to("cells ", ("#",), lambda: CELLS_LIMIT))
 EVENTS: Command[Events] = Command("events", Answers.events, take=_lines_to("events ", ("{",), lambda: EVENTS_LIMIT))
 # Of a server alone: the variables that anybody has declared. It ends no declarations.

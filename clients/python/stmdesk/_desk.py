@@ -16,18 +16,19 @@ from typing import Any, Literal, TypeVar, get_args
 from ._answers import Answers
 from ._batch import Batch
 from ._commands import (
-    ATOMICALLY, CANCEL, CHECKPOINT, DECLARE, DECLARED, DELIVER, DRAIN, EVAL, EVENTS, FINISH, HANDBACK, HISTORY, LOOKS, READS, READY, SETTLE,
-    SHOW, STORE, SUBMIT, TAKE, TRY, TVAR, WAITING, WHY, Answer, Command, decimal, number_of,
+    ATOMICALLY, BLOCK, BOARD, CANCEL, CHECKPOINT, DECLARE, DECLARED, DELIVER, DRAIN, EVAL, EVENTS, FINISH, HANDBACK, HISTORY, LABEL, LOOKS,
+    READS, READY, SETTLE, SHOW, STORE, SUBMIT, TAKE, TRY, TVAR, WAITING, WHY, Answer, Command, checked_label, decimal, labelling, number_of,
 )  # fmt: skip
 from ._errors import BadAnswer, Cancelled, DeskError, OutOfMemory, Refused, Thrown, TimedOut
 from ._local import begin_local
 from ._program import Process, check_built, find_program, is_ours
 from ._transport import Closed, Odd, Transport, AtomicBlocks
-from ._values import Commits, Events, Finished, FinishedThrows, Job, Reason, Ref, Settled, Status, Store, Value, Verdict, Waiting
+from ._values import Commits, Entry, Events, Finished, FinishedThrows, Job, Reason, Ref, Settled, Status, Store, Value, Verdict, Waiting
 from ._waits import Wait
 
 PATIENCE = 5.0  # seconds that the program has to end after its input has ended
 FEW = 8  # commands that are sent in one go whatever their length
+ASKED = 4096  # blocks of which `board` asks a server in one request
 
 Sync = Literal["full", "append", "none"]
 
@@ -202,13 +203,63 @@ class Desk:
         """
         return self._ask(LOOKS, block)
 
-    def submit(self, block: str) -> int:
-        """Lets the block wait. Returns its ticket.
+    def submit(self, block: str, *, label: str | None = None) -> int:
+        """Lets the block wait, with a label if one is given. Returns its ticket.
 
-        >>> desk.submit("do { a <- readTVar x; if a < 5 then retry else return a }")
+        With a label this is `submit` and then `label`, with no command of another thread between them. If the history has room for the first
+        alone, or another client of the server ends the block meanwhile, the block has no label, and this returns its ticket all the same. If
+        anything else comes between, the block is cancelled, and that is raised. Raises ValueError if no block can have the label.
+
+        >>> desk.submit("do { a <- readTVar x; if a < 5 then retry else return a }", label="job7")
         1
         """
-        return self._ask(SUBMIT, block)
+        if label is None:
+            return self._ask(SUBMIT, block)
+        checked_label(label)
+        self._transport.check_owner()
+        with self._calls:
+            ticket = self._ask(SUBMIT, block)
+            try:
+                self.label(ticket, label)
+            except Refused as refused:
+                if refused.name not in ("HistoryFull", "NoTicket"):
+                    self._cancel_quietly(ticket)
+                    raise
+            except BaseException:
+                self._cancel_quietly(ticket)
+                raise
+        return ticket
+
+    def _cancel_quietly(self, ticket: int) -> None:
+        """Cancels a block of which nobody knows, if that can be done."""
+        with suppress(DeskError, ValueError):
+            self.cancel(ticket)
+
+    def label(self, block: Waiting | int, label: str | None) -> None:
+        """Gives a waiting block a label in place of the one that it had, or takes it away if that is None. The block is given by its ticket,
+        or as a `Waiting`. A label says to people which block this is: the desk does nothing else because of it, and several blocks may have the
+        same. It goes when the block finishes or is cancelled. Raises ValueError if no block can have it: a label has 1 to 64 characters of
+        ASCII, no blank, and isn't `-`.
+
+        >>> ticket = desk.submit("retry")
+        >>> desk.label(ticket, "job7")
+        >>> desk.board(blocks=False, reasons=False)
+        [Entry(status=New(ticket=1), label='job7', block=None, why=None)]
+        >>> desk.label(7, "job8")
+        Traceback (most recent call last):
+        stmdesk.Refused: NoTicket
+            label 7 job8
+            hint: no block waits under this ticket: it finished, or was cancelled, or never was
+        """
+        self._ask(LABEL, labelling(block, label))
+
+    def block(self, ticket: int) -> str:
+        """The text of a waiting block, on one line: an end of a line in it is a blank.
+
+        >>> desk.block(desk.submit("do { a <- readTVar x; if a < 5 then retry else return a }"))
+        'do { a <- readTVar x; if a < 5 then retry else return a }'
+        """
+        return self._ask(BLOCK, decimal(ticket))
 
     def take(self, count: int) -> list[Job]:
         """Hands out the `count` lowest queued tickets, or all if there are fewer, as jobs on the present store.
@@ -272,6 +323,46 @@ class Desk:
         [New(ticket=1)]
         """
         return self._ask(SHOW)
+
+    def board(self, *, blocks: bool = True, reasons: bool = True) -> list[Entry]:
+        """Who waits for what: each waiting block in ascending order of the tickets, with its status, its label, its text and what it waits for.
+
+        The tickets with their statuses and labels are one question, `board`. The texts are one more for each block (`block T`), and so are
+        the reasons (`why T`); these are all sent in one go, and `blocks=False` and `reasons=False` leave them out. No command of another
+        thread comes between. Other clients of a server may come between the two goes: then a block that has come or gone isn't listed, and the
+        rest is of the second. (Of more than 4,096 blocks a server is asked in several goes.)
+
+        >>> reader = desk.submit("do { a <- readTVar x; if a < 5 then retry else return a }", label="reader")
+        >>> evaluated, writer = desk.eval(), desk.submit("writeTVar x 3")
+        >>> for it in desk.board():
+        ...     print(it.ticket, it.label, it.state, it.why)
+        1 reader current Waits(ticket=1, reads={Ref(0, 'x'): 1})
+        2 None new New(ticket=2)
+        """
+        self._transport.check_owner()
+        with self._calls:
+            entries = self._ask(BOARD)
+            if not entries or not blocks and not reasons:
+                return entries
+            if not self._transport.is_shared:
+                return self._with_texts(entries, blocks, reasons)
+            parts = [entries[at : at + ASKED] for at in range(0, len(entries), ASKED)]
+            return [entry for part in parts for entry in self._with_texts(part, blocks, reasons)]
+
+    def _with_texts(self, entries: Sequence[Entry], blocks: bool, reasons: bool) -> list[Entry]:
+        """The entries with the texts of their blocks, and what these wait for, if that is wanted."""
+        texts = [Answer(BLOCK, str(it.ticket)) for it in entries] if blocks else []
+        whys = [Answer(WHY, str(it.ticket)) for it in entries] if reasons else []
+        boards = [Answer(BOARD)] if self._transport.is_shared else []
+        self._run([*boards, *texts, *whys])
+        now = {it.ticket: it for it in boards[0].result()} if boards else {it.ticket: it for it in entries}
+        found = []
+        for at, it in enumerate(entries):
+            if it.ticket in now:
+                is_at = now[it.ticket]
+                block, why = texts[at].result() if blocks else None, whys[at].result() if reasons else None
+                found.append(Entry(is_at.status, is_at.label, block, why))
+        return found
 
     def ready(self) -> list[int]:
         """The tickets that can be finished now, in ascending order: those that are current and don't block.
@@ -446,8 +537,9 @@ class Desk:
         self._take_over()
         return self._found(declaration)
 
-    def atomically(self, block: str, timeout: float | None = None) -> Value:
-        """Runs the block and returns its result. While the block retries, waits until what it has read changes.
+    def atomically(self, block: str, timeout: float | None = None, *, label: str | None = None) -> Value:
+        """Runs the block and returns its result. While the block retries, waits until what it has read changes. If it comes to wait, and
+        only then, it gets the label, if one is given.
 
         Many threads may wait so at the same time. Raises `Thrown` if the block throws; `TimedOut` if it can't finish within
         `timeout` seconds, and is cancelled; `Cancelled` if another call cancels its ticket; and `Ended`, in each thread, if
@@ -470,7 +562,7 @@ class Desk:
             raise transport.not_owner()
         if self._caller == get_ident():
             raise RuntimeError("a signal handler called the desk in the midst of another call")
-        wait = Wait(block)
+        wait = Wait(block, None if label is None else checked_label(label))
         waits: AtomicBlocks | None = None
         if not transport.keeps_answers:
             waits = self._begin_waits()
@@ -513,6 +605,13 @@ class Desk:
                 waits = self._begin_waits()
                 wait.hold()
                 waits.adopt(wait, done.ticket)
+                for naming in wait.naming():
+                    self._perform((naming,), waits)
+                    try:
+                        waits.named(naming)
+                    except Refused as full:
+                        waits.fail(full)
+                    waits.see(())
                 return waits
             if isinstance(done, FinishedThrows):
                 wait.end(error=Thrown(done.fault))

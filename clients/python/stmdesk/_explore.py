@@ -17,14 +17,15 @@ from ._program import check_built, find_program, run_once
 from ._stateless import MAX_STATES, STATES, explore_once, library_of
 from ._values import FinalStore, Ref, Value
 
-Outcome = Literal["right", "incomplete", "deadlock", "broken", "missed", "failed", "threw"]
+Outcome = Literal["right", "incomplete", "deadlock", "broken", "missed", "failed", "threw", "stuck", "never reached"]
 ClientState = Literal["waits", "ready", "refused", "fails"]
 
-_AT_A_LINE = ("broken", "missed", "failed", "threw")
+_AT_A_LINE = ("broken", "missed", "failed", "threw", "never reached")
 
 _FOUND = re.compile(
     r"states (?P<states>\d+) steps (?P<steps>\d+)\nended (?P<ended>\d+)\n(?P<stores>(?:(?:#.*\n)*cells \d+\n)*)"
-    r"(?:(?P<end>right|incomplete)\n|(?P<fault>deadlock|broken|missed|failed|threw)(?: line (?P<line>\d+))?\n"
+    r"(?:(?P<end>right|incomplete)\n"
+    r"|(?P<fault>deadlock|broken|missed|failed|threw|stuck|never reached)(?: line (?P<line>\d+)| client (?P<client>\d+))?\n"
     r"order (?P<order>.*)\n(?P<choices>(?:chose line .*\n)*)(?P<clients>(?:client .*\n)*))"
 )
 _STORE = re.compile(r"(?:#.*\n)*cells \d+\n")
@@ -95,7 +96,9 @@ class Exploration:
     - "broken": in such a state the invariant of line `line` doesn't hold;
     - "missed": in such a state the expectation of line `line` isn't met;
     - "failed": in such a state the assertion of line `line` fails;
-    - "threw": in such a state the block throws that the `finish` of line `line` finishes, and isn't allowed to.
+    - "threw": in such a state the block throws that the `finish` of line `line` finishes, and isn't allowed to;
+    - "stuck": from such a state on the client `client` can't ever do its next step, though others may go on, and progress was asked for;
+    - "never reached": from such a state on the block of the `eventually` of line `line` can't ever return `True`.
 
     After a fault `order` are the clients in the order of their steps that leads there, `choices` the line and the value of each `choose`
     of this order, in their turn, and `clients` where each client is that isn't at its end. Else `order` is None, and the others are
@@ -132,8 +135,9 @@ class Exploration:
     choices: list[tuple[int, Value]]
     text: str = field(repr=False)
     script: str = field(repr=False)
-    _by: list[str] | tuple[str, int, bool, bool] = field(repr=False, compare=False)  # a command, or the library and the options
+    _by: list[str] | tuple[str, int, bool, bool, bool] = field(repr=False, compare=False)  # a command, or the library and the options
     warnings: list[LineWarning] = field(default_factory=list, repr=False)
+    client: int | None = field(default=None, repr=False)
 
     def __bool__(self) -> bool:
         return self.outcome == "right"
@@ -192,6 +196,7 @@ def explore(
     max_states: int | None = None,
     all: bool = False,
     allow_throws: bool = False,
+    progress: bool = False,
     local: bool = False,
     library: File | None = None,
 ) -> Exploration:
@@ -199,7 +204,8 @@ def explore(
 
     docs/EXPLORE.md says what a script is. At most `max_states` states are kept, 1,000,000 if nothing else is given. With
     `all` each state that can be reached is met and counted; else those that can't matter may be left out. With `allow_throws` no
-    throw of a block is a fault. Without `program` it runs what `find_program` returns. Raises `ScriptRefused` if a line of the
+    throw of a block is a fault. With `progress` it is a fault if a client can't ever do its next step again, and each state is met, as with
+    `all`. Without `program` it runs what `find_program` returns. Raises `ScriptRefused` if a line of the
     script is invalid, and `Ended` if the program ends otherwise, for example since it is out of memory.
 
     With `local` no program is run: the script is explored in this process, by the library `libstmdesk.so` at the path `library`, or else by
@@ -221,7 +227,7 @@ FinalCell(variable=Ref(1, 'b'), name='b', type='Int', value=30)]], outcome='righ
     """
     if not isinstance(script, str):
         raise TypeError(f"a script is a text, not {type(script).__name__}")
-    by = _asked(program, max_states, all, allow_throws, library_of(local, library, program=program))
+    by = _asked(program, max_states, all, allow_throws, progress, library_of(local, library, program=program))
     status, printed, said = _explored(by, script)
     if status == 1 and _REFUSED.search(said):
         raise _refusal(said, script)
@@ -248,33 +254,36 @@ def _refusal(said: str, script: str) -> ScriptRefused:
 
 
 def _asked(
-    program: str | os.PathLike[str] | None, max_states: int | None, all: bool, allow_throws: bool, library: str | None
-) -> list[str] | tuple[str, int, bool, bool]:
+    program: str | os.PathLike[str] | None, max_states: int | None, all: bool, allow_throws: bool, progress: bool, library: str | None
+) -> list[str] | tuple[str, int, bool, bool, bool]:
     """The command that explores with these options, or the library at this path with them."""
     if library is not None:
         states = STATES if max_states is None else index(max_states)
         if not 1 <= states <= MAX_STATES:
             raise ValueError(f"max_states={max_states!r} isn't from 1 to {MAX_STATES}")
-        return library, states, all, allow_throws
+        return library, states, all, allow_throws, progress
     path = find_program() if program is None else os.fspath(program)
     options = [] if max_states is None else ["--max-states", decimal(max_states)]
     options += ["--all"] if all else []
     options += ["--allow-throws"] if allow_throws else []
+    options += ["--progress"] if progress else []
     check_built(path)
     return [path, "explore", *options]
 
 
-def _explored(by: list[str] | tuple[str, int, bool, bool], script: str, more: Literal["", "history", "trace"] = "") -> tuple[int, str, str]:
+def _explored(
+    by: list[str] | tuple[str, int, bool, bool, bool], script: str, more: Literal["", "history", "trace"] = ""
+) -> tuple[int, str, str]:
     """The exit status of an exploration, and what it writes to the two outputs, with `more` the history or the trace of a fault."""
     if isinstance(by, list):
         return run_once([*by, f"--{more}"] if more else by, script)
     return explore_once(*by, script, more)
 
 
-def _read(printed: str, said: str, script: str, by: list[str] | tuple[str, int, bool, bool]) -> Exploration:
+def _read(printed: str, said: str, script: str, by: list[str] | tuple[str, int, bool, bool, bool]) -> Exploration:
     """What the program printed of a script, and said on standard error. Raises ValueError or LookupError if it never prints such a text."""
     answers, found = Answers(), _FOUND.fullmatch(printed)
-    if not found or (found["line"] is None) == (found["fault"] in _AT_A_LINE):
+    if not found or (found["line"] is None) == (found["fault"] in _AT_A_LINE) or (found["client"] is None) == (found["fault"] == "stuck"):
         raise ValueError("no exploration")
     answers.refs = {f"#{number}": Ref(number, name) for number, (name, _) in enumerate(_DECLARED.findall(script))}
     order = None if found["order"] is None else tuple(int(it) for it in found["order"].split(" ") if it != "none")
@@ -292,6 +301,7 @@ def _read(printed: str, said: str, script: str, by: list[str] | tuple[str, int, 
         script,
         by,
         [LineWarning(int(line), text) for line, text in _WARNING.findall(said)],
+        None if found["client"] is None else int(found["client"]),
     )
 
 

@@ -147,7 +147,9 @@ def hint(
         return _NAMES[name] if at is None else f"{text[at]!r} at {at} isn't ASCII"
     if name == "BadByte" and place is not None:
         return _bad_byte(text, place)
-    if name == "Argument" and command in ("eval", "show", "ready", "store", "settle", "drain", "history", "checkpoint"):
+    if name == "Argument" and command == "label":
+        return "`label` takes a ticket, and a label of 1 to 64 characters without a blank, which isn't `-`; or the ticket alone"
+    if name == "Argument" and command in ("board", "eval", "show", "ready", "store", "settle", "drain", "history", "checkpoint"):
         return f"`{command}` takes no argument"
     found = None
     if command in ("tvar", "declare", "try", "looks", "submit", "atomically"):
@@ -171,15 +173,15 @@ def script_hint(reason: str, place: int | None, word: str, text: str, types: Map
         return "`choose` takes a declared variable and 1 to 16 values of its type, parted by blanks, no two the same"
     if reason == "Argument" and word == "repeat":
         return "`repeat` stands alone, at the end of a section with a step: a `finish`, an `expect`, an `assert` or a `choose`"
-    if reason == "Late" and word not in ("tvar", "always", "never"):
+    if reason == "Late" and word not in ("tvar", "always", "never", "eventually"):
         return "`repeat` is the last line of its section"
     if reason == "Argument":
         return "`client` takes nothing" if word == "client" else f"`{word}` takes the number of a `submit` above it in its section, counted from 1"
-    if word == "assert" and reason == "Mismatch" and place == 0:
-        return "the block of an `assert` returns a Bool"
+    if word in ("assert", "eventually") and reason == "Mismatch" and place == 0:
+        return f"the block of an `{word}` returns a Bool"
     if reason in _SCRIPT_NAMES:
         return _SCRIPT_NAMES[reason]
-    return hint(reason, place, None, "submit" if word in ("always", "never", "assert") else word, text, types, None)
+    return hint(reason, place, None, "submit" if word in ("always", "never", "eventually", "assert") else word, text, types, None)
 
 
 def _bad_byte(text: str, place: int) -> str | None:

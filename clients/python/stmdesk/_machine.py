@@ -18,15 +18,18 @@ from typing import Any
 from ._numbers import Numbers, Range
 
 # Commands that change nothing, and those that may. A question that is the first command ends the declarations all the same.
-QUESTIONS = {b"try", b"looks", b"show", b"ready", b"reads", b"why", b"store", b"history", b"events", b"declared"}
+QUESTIONS = {
+    b"try", b"looks", b"show", b"ready", b"reads", b"why", b"store", b"history", b"events", b"block", b"board", b"declared",
+}  # fmt: skip
 CHANGES = {
     b"tvar", b"declare", b"submit", b"atomically", b"take", b"deliver", b"handback", b"eval", b"finish", b"cancel", b"settle", b"drain",
-    b"checkpoint", b"wait",
+    b"checkpoint", b"label", b"wait", b"waitas",
 }  # fmt: skip
-# Those that give a block a ticket.
-SUBMISSIONS = {b"submit", b"atomically", b"wait"}
+# Those that are answered when their block has ended; and those that give a block a ticket.
+WAITS = {b"wait", b"waitas"}
+SUBMISSIONS = {b"submit", b"atomically", *WAITS}
 # How the last line of an answer of many lines begins.
-LAST = {b"store": b"cells ", b"show": b"waiting ", b"events": b"events "}
+LAST = {b"store": b"cells ", b"show": b"waiting ", b"board": b"waiting ", b"events": b"events "}
 MARK = b"try return ()"  # a question whose answer begins with no brace: it ends a history
 NUMBER_OF_EVENTS = b"events 4294967295"
 
@@ -55,6 +58,11 @@ def word(line: bytes) -> bytes | None:
     if not parts[0]:
         return None
     return parts[0] if line.isascii() else b"?"
+
+
+def is_label(text: bytes) -> bool:
+    """Whether a block can have this label."""
+    return 0 < len(text) <= 64 and text != b"-" and all(33 <= it <= 126 for it in text)
 
 
 def weight(lines: Iterable[bytes]) -> int:
@@ -162,12 +170,13 @@ Where = tuple[str, int, int]  # the session, the number of the request, the plac
 
 
 class Given:
-    """A line for the program, and what its answer is for: of a request, or of a step of a wait (`eval`, `finish`), or of the machine."""
+    """A line for the program, and what its answer is for: of a request, or of a step of a wait (`eval`, `finish`), or of the machine. That of
+    a wait may have a label for its block."""
 
-    __slots__ = ("kind", "line", "ticket", "where", "word")
+    __slots__ = ("kind", "label", "line", "ticket", "where", "word")
 
-    def __init__(self, line: bytes, kind: str, where: Where | None = None, ticket: int = 0) -> None:
-        self.line, self.kind, self.where, self.ticket = line, kind, where, ticket
+    def __init__(self, line: bytes, kind: str, where: Where | None = None, ticket: int = 0, label: bytes = b"") -> None:
+        self.line, self.kind, self.where, self.ticket, self.label = line, kind, where, ticket, label
         self.word = word(line)
 
 
@@ -183,6 +192,7 @@ class Machine:
         self.waits: dict[int, Where] = {}  # by ticket: the line that the end of its block answers
         self.due: set[int] = set()  # tickets of waits that may be able to finish
         self.out: set[int] = set()  # those of them that somebody has taken
+        self.unnamed: dict[int, bytes] = {}  # by ticket: labels of waits that their blocks haven't got yet
         self.waiting: dict[int, bytes] = {}  # all tickets that wait, with their blocks as far as they are known
         self.owned: dict[int, str] = {}  # by ticket: the session with which a submitted block ends
         self.unwanted: set[int] = set()  # tickets to cancel
@@ -190,6 +200,7 @@ class Machine:
         self.is_full = False  # whether rounds had to stop, since the history is full
         self.done: list[Done] = []
         # What only reports use.
+        self.labels: dict[int, bytes] = {}  # by ticket
         self.counts = {"events": 0, "finished": 0, "evaluations": 0, "cancelled": 0, "checkpoints": 0}
         self.since = 0  # events since the last checkpoint
         self._submissions = self._new_waits = 0  # in the script that isn't given yet
@@ -198,10 +209,12 @@ class Machine:
         """For a desk that may go on from a file. With texts of the blocks that wait it reads the history."""
         if (await self.console.run([b"tvar"]))[0] == [b"refused Late"]:
             self.is_declaring, self.next = False, None
-            store, shown, count = await self.console.run([b"store", b"show", NUMBER_OF_EVENTS])
+            store, shown, board, count = await self.console.run([b"store", b"show", b"board", NUMBER_OF_EVENTS])
             named = [it.rpartition(b" = ")[0] for it in store if it.startswith(b"#")]
             self.declared = [it for it in named if not it.split(b" ", 2)[1] == b":"]
             self.waiting = {int(it.split(b" ", 1)[0]): b"" for it in shown[:-1]}
+            labels = {int(it.split(b" ", 1)[0]): it.rpartition(b" ")[2] for it in board[:-1]}  # none of a program that knows no labels
+            self.labels = {ticket: it for ticket, it in labels.items() if it != b"-"}
             if has_texts and self.waiting:
                 for line in (await self.console.run([b"history"]))[0]:
                     if line.startswith(b'{"block":') and (found := json.loads(line))["ticket"] in self.waiting:
@@ -250,6 +263,8 @@ class Machine:
                 script += [Given(b"eval", "eval"), Given(b"finish %d" % ticket, "finish", None, ticket)]
             self.out.clear()
             await self._flush(script)
+        if not self.is_full:  # what still waits has come to wait
+            await self._flush([Given(b"label %d %s" % (it, self.unnamed[it]), "own", None, it) for it in sorted(self.unnamed)])
         return self.done
 
     def _open(self, name: str, words: Sequence[str]) -> None:
@@ -314,8 +329,16 @@ class Machine:
         its = word(line)
         if its is None:
             return
+        label = b""
         if its == b"wait":
             line = b"submit " + line.strip(b"\t\r ")[5:]
+        elif its == b"waitas":
+            rest = line.strip(b"\t\r ")[6:].strip(b"\t\r ")
+            label = rest.replace(b"\t", b" ").replace(b"\r", b" ").split(b" ", 1)[0]
+            its, line = b"wait", b"submit " + rest[len(label) :].lstrip(b"\t\r ")
+            if not is_label(label):
+                slots[where[2]] = [b"refused Argument"]
+                return
         if len(line) > LINE:
             slots[where[2]] = [b"refused LineTooLong"]
             return
@@ -333,7 +356,7 @@ class Machine:
         elif its in QUESTIONS and its != b"declared" or its in CHANGES and its not in (b"tvar", b"declare"):
             self.is_declaring = False
         kind = {b"wait": "wait", b"declared": "declared"}.get(its, "line")
-        script.append(Given(line, kind, where, int(kind == "declared" and self.is_declaring)))
+        script.append(Given(line, kind, where, int(kind == "declared" and self.is_declaring), label))
         if its == b"wait" and self.next is not None:
             # At most this ticket. If a submission before it is refused, this one isn't given yet, and the rounds try the right one.
             ticket = self.next + self._submissions
@@ -360,6 +383,7 @@ class Machine:
             shown = (await self.console.run([b"show"]))[0]
             self.waiting = {it: self.waiting.get(it, b"") for it in (int(line.split(b" ", 1)[0]) for line in shown[:-1])}
             self.owned = {it: owner for it, owner in self.owned.items() if it in self.waiting}
+            self.labels = {it: label for it, label in self.labels.items() if it in self.waiting}
         self.chain = digest.digest()
         self._submissions = self._new_waits = 0
         script.clear()
@@ -371,6 +395,9 @@ class Machine:
         self.is_full |= name == b"HistoryFull" and given.kind != "line"
         if given.kind in ("line", "wait", "declared"):
             self._fill(given.where, answer)
+        elif given.word == b"label":
+            if name != b"HistoryFull":  # of a program that knows no labels
+                self.unnamed.pop(given.ticket, None)
         elif given.kind == "own" and name == b"NoTicket":  # it was a cancel
             self.unwanted.discard(given.ticket)
             self.owned.pop(given.ticket, None)
@@ -398,6 +425,8 @@ class Machine:
             if given.kind == "wait" and given.where:
                 self.waits[ticket] = given.where
                 self.due.add(ticket)
+                if given.label:
+                    self.unnamed[ticket] = given.label
                 return
             if given.where and not self._keeps(given.where[0]):
                 self.owned[ticket] = given.where[0]
@@ -410,6 +439,12 @@ class Machine:
             self._finished(words)
         elif given.word == b"cancel":
             self._over(int(words[1]), answer)
+        elif given.word == b"label":
+            ticket = int(words[1])
+            self.unnamed.pop(ticket, None)
+            self.labels.pop(ticket, None)
+            if words[2] != b"-":
+                self.labels[ticket] = words[2]
         if given.kind in ("line", "declared"):
             self._fill(given.where, answer)
 
@@ -429,7 +464,7 @@ class Machine:
 
     def _count(self, given: Given, words: list[bytes]) -> None:
         events = 0
-        if given.word in (b"declare", b"submit", b"deliver", b"finish", b"cancel"):
+        if given.word in (b"declare", b"submit", b"deliver", b"finish", b"cancel", b"label"):
             events = 1
             self.counts["finished"] += given.word == b"finish"
             self.counts["evaluations"] += given.word == b"deliver"
@@ -456,6 +491,8 @@ class Machine:
         self.due.discard(ticket)
         self.owned.pop(ticket, None)
         self.waiting.pop(ticket, None)
+        self.labels.pop(ticket, None)
+        self.unnamed.pop(ticket, None)
         self.unwanted.discard(ticket)
         self._fill(self.waits.pop(ticket, None), answer)
 
@@ -505,6 +542,7 @@ class Machine:
         return {
             "next": self.next, "chain": self.chain.hex(), "due": sorted(self.due), "waits": [[it, *self.waits[it]] for it in sorted(self.waits)],
             "owned": [[it, self.owned[it]] for it in sorted(self.owned)], "unwanted": sorted(self.unwanted), "sessions": sessions, "counts": self.counts,
+            "unnamed": [[it, self.unnamed[it].decode()] for it in sorted(self.unnamed)],
         }  # fmt: skip
 
     def load(self, table: dict[str, Any]) -> None:
@@ -512,6 +550,7 @@ class Machine:
         self.next, self.chain, self.due = table["next"], bytes.fromhex(table["chain"]), set(table["due"])
         self.waits = {ticket: (name, number, place) for ticket, name, number, place in table["waits"]}
         self.owned, self.unwanted = dict(table["owned"]), set(table["unwanted"])
+        self.unnamed = {ticket: label.encode() for ticket, label in table.get("unnamed", ())}
         self.counts, self.sessions, self.since = dict(table["counts"]), {}, 0
         for name, it in table["sessions"].items():
             session = self.sessions[name] = Session({}, Numbers(it["acknowledged"]), it["keeps"])

@@ -25,7 +25,7 @@ td,th{padding:3px 8px 3px 0;vertical-align:top;overflow-wrap:anywhere;border-top
 .number{width:64px;font-variant-numeric:tabular-nums}.short{width:96px}.middle{width:26%}
 code{font-family:ui-monospace,SFMono-Regular,Menlo,Consolas,"DejaVu Sans Mono",monospace;font-size:12px}
 .badge{display:inline-block;border:1px solid currentColor;border-radius:4px;padding:0 4px;font-size:11px;font-weight:600}
-.new{color:var(--new)}.stale{color:var(--stale);background:var(--ground)}.waits{color:var(--commits)}.declared{color:var(--declared)}.ready,.finished{color:var(--finished)}
+.new,.labelled{color:var(--new)}.stale{color:var(--stale);background:var(--ground)}.waits{color:var(--commits)}.declared{color:var(--declared)}.ready,.finished{color:var(--finished)}
 .cancelled,.muted{color:var(--muted)}tr.changed td{background:var(--mark)}
 @media(max-width:760px){main{grid-template-columns:minmax(0,1fr)}}
 </style>
@@ -67,6 +67,7 @@ const value = it => it === null ? "()" : it === true ? "True" : it === false ? "
 function said(it) {
   if (it.event == "submitted") return it.block;
   if (it.event == "cancelled") return "";
+  if (it.event == "labelled") return it.label;
   if (it.event == "declared") return `${it.name} : ${it.type} = ${value(it.init)}`;
   const verdict = it.verdict;
   if (verdict == "blocks") return "blocks";

@@ -16,7 +16,7 @@ from contextlib import suppress
 from dataclasses import dataclass
 from typing import Any
 
-from ._machine import LINE, REQUEST, REQUESTS, WAITING, Console, Done, Ended, Lines, Machine, weight, word
+from ._machine import LINE, REQUEST, REQUESTS, WAITING, WAITS, Console, Done, Ended, Lines, Machine, weight, word
 from ._numbers import Numbers
 
 GROUP = 1 << 18  # weight of a group, after which no further request is taken into it
@@ -155,9 +155,9 @@ class Connection:
         if not self.is_busy and self.lines:
             lines = [self.lines.popleft()]
             size = weight(lines)
-            is_wait = word(lines[0]) == b"wait"
+            is_wait = word(lines[0]) in WAITS
             while self.lines and not is_wait and (size := size + weight([self.lines[0]])) <= self.server.limits.request:
-                if word(self.lines[0]) == b"wait":
+                if word(self.lines[0]) in WAITS:
                     break
                 lines.append(self.lines.popleft())
             self.is_busy, self.number = True, self.number + 1
@@ -287,7 +287,8 @@ class Server:
             if answer[0].startswith(b"checkpoint "):
                 machine.counts["checkpoints"] += 1
                 machine.since = 0
-        if machine.is_full and (machine.due or machine.unwanted):
+        has_room = machine.since == 0  # there was a checkpoint: labels that had no room are given
+        if machine.is_full and (machine.due or machine.unwanted or machine.unnamed and has_room):
             self.put(["nop", ""])
 
     # Connections.

@@ -474,7 +474,8 @@ class _ServerWaits(AtomicBlocks):
         ready = threading.Lock()  # held until the request is known
         with ready:
             try:
-                line = f"wait{wait.run.line().removeprefix(ATOMICALLY.word)}"
+                block = wait.run.line().removeprefix(ATOMICALLY.word)
+                line = f"wait{block}" if wait.label is None else f"waitas {wait.label}{block}"
                 asked.append(self._session.begin([line], partial(self._over, wait, asked, ready)))
                 self._requests[wait] = asked[0]
             except DeskError as error:

@@ -26,7 +26,7 @@ class _Checked(ctypes.Structure):
 
 
 class _ExploreOptions(ctypes.Structure):
-    _fields_ = [("max_states", ctypes.c_uint32), *((name, ctypes.c_bool) for name in ("history", "all", "allow_throws", "trace"))]
+    _fields_ = [("max_states", ctypes.c_uint32), *((name, ctypes.c_bool) for name in ("history", "all", "allow_throws", "trace", "progress"))]
 
 
 class _Explored(ctypes.Structure):
@@ -82,11 +82,14 @@ def check_once(library: str, history: bytes) -> tuple[str, int | None]:
     return f"{printed[status]}\n", line
 
 
-def explore_once(library: str, max_states: int, all: bool, allow_throws: bool, script: str, more: str = "") -> tuple[int, str, str]:
+def explore_once(
+    library: str, max_states: int, all: bool, allow_throws: bool, progress: bool, script: str, more: str = ""
+) -> tuple[int, str, str]:
     """The exit status of the program that explores this script, and what it writes to its two outputs. `more` is "history" or "trace" if
     that is wanted. Raises `OutOfMemory`."""
     functions, lines = _load(library), script.encode()
-    options, text, explored = _ExploreOptions(max_states, more == "history", all, allow_throws, more == "trace"), _Handle(), _Explored()
+    options = _ExploreOptions(max_states, more == "history", all, allow_throws, more == "trace", progress)
+    text, explored = _Handle(), _Explored()
     status = functions.explore(lines, len(lines), ctypes.byref(options), ctypes.byref(text), ctypes.byref(explored))
     if status == NO_MEMORY:
         raise OutOfMemory("an exploration")

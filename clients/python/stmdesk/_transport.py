@@ -58,6 +58,10 @@ class AtomicBlocks(ABC):
         """Waits for a block that another call has run, and that waits under this ticket. Needs the lock."""
         raise NotImplementedError
 
+    def named(self, answer: Answer[None]) -> None:
+        """Looks at the answer to what gave such a block its label. Raises a refusal after which no block can finish any more. Needs the lock."""
+        raise NotImplementedError
+
     def fail(self, error: Exception) -> None:
         """Ends every wait with the error. Needs the lock."""
         raise NotImplementedError

@@ -214,6 +214,40 @@ Reason = New | StaleBy | StaleBefore | Waits | Ready
 
 
 @dataclass(frozen=True)
+class Entry:
+    """A waiting block on the board of `Desk.board`: its status, its label, its text on one line, and what it waits for. `label` is None if
+    it has none; `block` and `why` are None if they weren't asked for.
+
+    >>> ticket, evaluated = desk.submit("do { a <- readTVar x; if a < 5 then retry else return a }", label="job7"), desk.eval()
+    >>> (entry,) = desk.board()
+    >>> entry.ticket, entry.label, entry.block
+    (1, 'job7', 'do { a <- readTVar x; if a < 5 then retry else return a }')
+    >>> entry.state, entry.verdict, entry.why
+    ('current', Blocks(), Waits(ticket=1, reads={Ref(0, 'x'): 1}))
+    """
+
+    status: Status
+    label: str | None
+    block: str | None = None
+    why: Reason | None = None
+
+    @property
+    def ticket(self) -> int:
+        """The block's ticket."""
+        return self.status.ticket
+
+    @property
+    def state(self) -> Literal["new", "stale", "current"]:
+        """The word of its status."""
+        return "new" if isinstance(self.status, New) else "stale" if isinstance(self.status, Stale) else "current"
+
+    @property
+    def verdict(self) -> Verdict | None:
+        """Its last verdict; None if it is new."""
+        return None if isinstance(self.status, New) else self.status.verdict
+
+
+@dataclass(frozen=True)
 class Job:
     """A ticket that `take` handed out, with the job's number for `deliver`.
 
@@ -366,7 +400,23 @@ class Declaration:
     init: Value
 
 
-Event = Submission | Delivery | Finish | Cancellation | Declaration
+@dataclass(frozen=True)
+class Labelling:
+    """The event that a waiting block got a label in place of the one that it had, or None if its label was taken away.
+
+    >>> ticket = desk.submit("retry", label="job7")
+    >>> desk.label(ticket, None)
+    >>> desk.events(2)
+    [Labelling(number=2, client=0, ticket=1, label='job7'), Labelling(number=3, client=0, ticket=1, label=None)]
+    """
+
+    number: int
+    client: int
+    ticket: int
+    label: str | None
+
+
+Event = Submission | Delivery | Finish | Cancellation | Declaration | Labelling
 
 
 class Events(list[Event]):

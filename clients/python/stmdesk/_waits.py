@@ -12,7 +12,7 @@ from contextlib import AbstractContextManager, suppress
 from copy import copy
 from typing import Any
 
-from ._commands import ATOMICALLY, CANCEL, CHECKPOINT, EVAL, FINISH, HANDBACK, Answer
+from ._commands import ATOMICALLY, CANCEL, CHECKPOINT, EVAL, FINISH, HANDBACK, LABEL, Answer, labelling
 from ._errors import Cancelled, DeskError, OutOfMemory, Refused, Thrown
 from ._fork import Owned
 from ._helper import Helper
@@ -25,11 +25,12 @@ SIGNALS = 1.0  # seconds after which the main thread looks for a signal that it 
 class Wait:
     """A block that a caller gave to `atomically`, until its outcome is there: a result or an error."""
 
-    __slots__ = ("_tell", "error", "is_over", "is_withdrawn", "lock", "result", "run", "ticket")
+    __slots__ = ("_tell", "error", "is_over", "is_withdrawn", "label", "lock", "result", "run", "ticket")
 
-    def __init__(self, block: str, tell: Callable[[], None] | None = None) -> None:
+    def __init__(self, block: str, label: str | None = None, tell: Callable[[], None] | None = None) -> None:
         """`tell` is called once, by another thread, when the outcome is there."""
         self.run = Answer(ATOMICALLY, block)
+        self.label = label  # which the block gets if it comes to wait
         self.lock: threading.Lock | None = None  # released when the outcome is there, if the caller may have to sleep until then
         self.ticket: int | None = None
         self.is_withdrawn = False  # then the block isn't run any more
@@ -62,6 +63,10 @@ class Wait:
         self.result, self.error, self.is_over = result, error, True
         if self._tell is not None:
             self._tell()
+
+    def naming(self) -> list[Answer[None]]:
+        """What gives the block its label, if it has one and waits."""
+        return [] if self.label is None or self.ticket is None or self.is_over else [Answer(LABEL, labelling(self.ticket, self.label))]
 
     def outcome(self) -> Value:
         if self.error is not None:
@@ -275,9 +280,14 @@ class Waits(Owned, AtomicBlocks):
         full = evaluated.error  # HistoryFull: no block can finish any more
         for new in self._new:
             full = self._ran(new) or full
+        named = [it for new in self._new if new not in given_up for it in new.naming()]
         self._new.clear()
         if full is not None:
             raise full
+        if named:
+            self._perform(named)
+            for it in named:
+                self.named(it)
         if commands:
             self._has_room()
         if given_up or self._unwanted:
@@ -297,6 +307,17 @@ class Waits(Owned, AtomicBlocks):
         if not isinstance(done, Waiting):
             self._finished(done)
         return None
+
+    def named(self, answer: Answer[None]) -> None:
+        """Looks at the answer to what gives a block its label. Raises a refusal after which no block can finish any more."""
+        refused = answer.error
+        if isinstance(refused, Refused) and refused.name == "HistoryFull":
+            raise refused
+        if refused is not None:  # the program knows no labels
+            ticket = int(answer.text.partition(" ")[0])
+            self._due.discard(ticket)
+            self._unwanted.add(ticket)
+            self._waiting.pop(ticket).end(error=refused)
 
     def _tried(self, finish: Answer[Finished | FinishedThrows]) -> None:
         """Looks at the answer to a try to finish. Raises a refusal after which no block can finish any more."""

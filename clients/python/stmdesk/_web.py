@@ -177,7 +177,9 @@ class Web:
         name = where[0] if where else machine.owned.get(ticket, "")
         connection = self.server.connections.get(name)
         who = peer(connection.writer) if connection else "a session" if name else "nobody in particular"
-        return {"block": machine.waiting.get(ticket, b"").decode("ascii", "replace"), "who": f"{who}{', in a call' if where else ''}"}
+        text, label = machine.waiting.get(ticket, b""), machine.labels.get(ticket)
+        block = (text if label is None else b"%s: %s" % (label, text)).decode("ascii", "replace")
+        return {"block": block, "who": f"{who}{', in a call' if where else ''}"}
 
     async def metrics(self) -> bytes:
         """The figures, as Prometheus reads them."""

@@ -29,7 +29,8 @@ from ._batch import Commands
 from ._connect import PATIENCE, Paths, session
 from ._errors import Cancelled, DeskClosed, DeskError, JournalError, TimedOut
 from ._program import Process
-from ._values import Events, Finished, FinishedThrows, Job, Reason, Ref, Settled, Status, Store, Value, Verdict
+from ._commands import checked_label
+from ._values import Entry, Events, Finished, FinishedThrows, Job, Reason, Ref, Settled, Status, Store, Value, Verdict, Waiting
 from ._waits import Wait
 
 T = TypeVar("T")
@@ -152,13 +153,29 @@ class Desk:
         """
         return await self._call(partial(self._desk.looks, block))
 
-    async def submit(self, block: str) -> int:
-        """Lets the block wait. Returns its ticket.
+    async def submit(self, block: str, *, label: str | None = None) -> int:
+        """Lets the block wait, with a label if one is given. Returns its ticket.
 
-        >>> run(desk.submit("retry"))
+        >>> run(desk.submit("retry", label="job7"))
         1
         """
-        return await self._call(partial(self._desk.submit, block))
+        return await self._call(partial(self._desk.submit, block, label=label))
+
+    async def label(self, block: Waiting | int, label: str | None) -> None:
+        """Gives a waiting block a label in place of the one that it had, or takes it away.
+
+        >>> ticket = run(desk.submit("retry"))
+        >>> run(desk.label(ticket, "job7"))
+        """
+        return await self._call(partial(self._desk.label, block, label))
+
+    async def block(self, ticket: int) -> str:
+        """The text of a waiting block, on one line.
+
+        >>> run(desk.block(run(desk.submit("retry"))))
+        'retry'
+        """
+        return await self._call(partial(self._desk.block, ticket))
 
     async def take(self, count: int) -> list[Job]:
         """Hands out the `count` lowest queued tickets as jobs.
@@ -218,6 +235,16 @@ class Desk:
         []
         """
         return await self._call(self._desk.show)
+
+    async def board(self, *, blocks: bool = True, reasons: bool = True) -> list[Entry]:
+        """Who waits for what: each waiting block with its status, its label, its text and what it waits for. Asks what
+        `stmdesk.Desk.board` asks.
+
+        >>> ticket = run(desk.submit("retry", label="job7"))
+        >>> run(desk.board())
+        [Entry(status=New(ticket=1), label='job7', block='retry', why=New(ticket=1))]
+        """
+        return await self._call(partial(self._desk.board, blocks=blocks, reasons=reasons))
 
     async def ready(self) -> list[int]:
         """The tickets that can be finished now, in ascending order.
@@ -303,8 +330,9 @@ class Desk:
         """
         return await self._call(partial(self._desk.value, variable))
 
-    async def atomically(self, block: str, timeout: float | None = None) -> Value:
-        """Runs the block and returns its result. While the block retries, waits until what it has read changes.
+    async def atomically(self, block: str, timeout: float | None = None, *, label: str | None = None) -> Value:
+        """Runs the block and returns its result. While the block retries, waits until what it has read changes. If it comes to wait it
+        gets the label, if one is given.
 
         Raises `Thrown` if the block throws; `TimedOut` if it can't finish within `timeout` seconds, and is cancelled;
         `Cancelled` if another call cancels its ticket; and `Ended` if the program ends. If the task is cancelled, so is the
@@ -315,7 +343,7 @@ class Desk:
         """
         loop = asyncio.get_running_loop()
         over: asyncio.Future[None] = loop.create_future()
-        wait = Wait(block, lambda: _tell(loop, over, None, None))
+        wait = Wait(block, None if label is None else checked_label(label), lambda: _tell(loop, over, None, None))
         waits = self._desk._begin_waits()
         is_late = False
         try:

@@ -170,6 +170,28 @@ class Explorations(OnProgram):
         found = self.explore("tvar x : Int = 0\nclient\nassert do { a <- readTVar x; if a == 0 then retry else return True }\n")
         self.assert_found(found, 1, 0, 0, "deadlock", None, (), [ClientAt(0, 3, "waits", {X: 0})])
 
+    def test_stuck(self):
+        step = "submit do { f <- readTVar free; if f then writeTVar free False else retry }\nfinish 1\nrepeat\n"
+        clock = "client\nsubmit do { t <- readTVar tick; writeTVar tick (t == False) }\nfinish 1\nrepeat\n"
+        script = "tvar free : Bool = True\ntvar tick : Bool = False\nclient\n" + step + clock
+        self.assert_found(self.explore(script, all=True), 4, 6, 0, "right")
+        found = self.explore(script, progress=True)
+        where = [ClientAt(0, 5, "waits", {Ref(0, "free"): False}), ClientAt(1, 9, "ready", {})]
+        self.assert_found(found, 4, 6, 0, "stuck", None, (0,), where)
+        self.assert_is(found.client, 0)
+        self.assertIn("stuck client 0\n", str(found))
+        self.assert_is(found.trace()[0].client, 0)
+        self.assertIn('"event":"finished"', found.history())
+        self.assert_is(pickle.loads(pickle.dumps(found)), found)
+
+    def test_never_reached(self):
+        script = "tvar x : Int = 0\neventually do { a <- readTVar x; return (a == %d) }\nclient\nsubmit writeTVar x 1\nfinish 1\n"
+        self.assert_found(self.explore(script % 1), 2, 1, 1, "right")
+        self.assert_found(self.explore(script % 0), 2, 1, 1, "never reached", 2, (0,), [])
+        self.assert_found(self.explore(script % 2, progress=True), 2, 1, 1, "never reached", 2, (), [ClientAt(0, 5, "ready", {})])
+        self.assert_found(self.explore(script % 1, max_states=1), 1, 0, 0, "incomplete")
+        self.assertIsNone(self.explore(script % 0).client)
+
     @needs_process("warnings")
     def test_warnings(self):
         submit = "submit do { a <- readTVar x; writeTVar x (a + 1) }\n"
@@ -324,6 +346,12 @@ class Explorations(OnProgram):
                 "assert readTVar x",
                 7 * " " + "^",
                 "hint: the block of an `assert` returns a Bool",
+            ),
+            "eventually readTVar x\nclient\n": (
+                "line 3 of the script is refused: Mismatch 0",
+                "eventually readTVar x",
+                11 * " " + "^",
+                "hint: the block of an `eventually` returns a Bool",
             ),
             "client\nsubmit retry\nthrows 2\n": (
                 "line 5 of the script is refused: Argument",

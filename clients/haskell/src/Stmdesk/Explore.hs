@@ -3,7 +3,7 @@
 -- | Protocols of several clients: every order of their steps by @stmdesk explore@, and the same steps on GHC's STM.
 module Stmdesk.Explore
   ( -- * Protocols
-    Protocol (..), Client (..), Step (..), step, expect, Invariant (..), always, never
+    Protocol (..), Client (..), Step (..), step, expect, Invariant (..), always, never, eventually
     -- * Every order
   , explore, ExploreOptions (..), everyOrder, Exploration (..), Outcome (..), At (..), Held (..), explained, scriptOf
     -- * On GHC
@@ -68,10 +68,12 @@ step = Run
 expect :: Exp (Var a) -> Exp a -> Step
 expect = Expect
 
--- | What should hold in every state, with a name: the block always returns 'true' there, or never does anything but retry.
+-- | What should hold in every state, with a name: the block always returns 'true' there, or never does anything but retry, or an order
+-- of steps leads from there to a state in which it returns 'true'.
 data Invariant
   = Always String (Block (Exp Bool))
   | forall r. Result r => Never String (Block r)
+  | Eventually String (Block (Exp Bool))
 
 -- | The block returns 'true' in every state.
 --
@@ -93,11 +95,25 @@ always = Always
 never :: Result r => String -> Block r -> Invariant
 never = Never
 
+-- | From every state an order of steps, perhaps of none, leads to a state in which the block returns 'true'. So it does wherever all clients
+-- are at their end. No fairness is assumed (docs/EXPLORE.md, "Progress").
+--
+-- >>> let x = variable "x" 1
+-- >>> let zero = eventually "x is zero" ((==. 0) <$> readVar x)
+-- >>> found <- explore everyOrder (Protocol [declaration x] [zero] [Client "ann" [step "reset" (writeVar x 0), step "set" (writeVar x 1)]])
+-- >>> putStr (explained found)
+-- never reached: x is zero
+-- 1. ann: reset
+-- 2. ann: set
+eventually :: String -> Block (Exp Bool) -> Invariant
+eventually = Eventually
+
 -- | How @stmdesk explore@ is run.
 data ExploreOptions = ExploreOptions
   { exploreProgram :: Maybe FilePath  -- ^ Else the one that 'Stmdesk.findProgram' finds.
   , maxStates :: Maybe Int  -- ^ How many states are kept at most, 1,000,000 if nothing is said.
   , allStates :: Bool  -- ^ Whether each state that can be reached is met, even if it can't matter.
+  , asksProgress :: Bool  -- ^ Whether it is a fault if a client can't ever do its next step again.
   }
   deriving (Eq, Show)
 
@@ -106,7 +122,7 @@ data ExploreOptions = ExploreOptions
 -- >>> statesMet <$> explore everyOrder {allStates = True} (Protocol [] [] [Client "ann" [step "nothing" (pure ())]])
 -- 2
 everyOrder :: ExploreOptions
-everyOrder = ExploreOptions Nothing Nothing False
+everyOrder = ExploreOptions Nothing Nothing False False
 
 -- | A step of a client: the client and the step by number, from 0, and by name.
 data At = At {clientAt :: Int, stepAt :: Int, clientNamed :: String, stepNamed :: String}
@@ -124,6 +140,10 @@ data Outcome
     Broken String
   | -- | The expectation at this step isn't met.
     Missed At
+  | -- | The client of this name isn't at its end, and can't ever do its next step, whatever the clients do.
+    Stuck String
+  | -- | No state can be reached from here in which the block of the 'eventually' of this name returns 'true'.
+    NeverReached String
   | -- | A fault that this package doesn't know, as the program prints it.
     OtherFault String
   deriving (Eq, Show)
@@ -162,6 +182,7 @@ scriptOf protocol = do
       invariant it = case it of
         Always name holds -> (,) (Left name) <$> block "always" holds
         Never name blocks -> (,) (Left name) <$> block "never" blocks
+        Eventually name holds -> (,) (Left name) <$> block "eventually" holds
       stepLines at it = case it of
         Run _ run -> (\text n -> ([(Nothing, text), (Just at, "finish " ++ show n)], n + 1)) <$> block "submit" run
         Expect variable' value -> do
@@ -222,6 +243,7 @@ explore options protocol = do
   (script, places) <- either throwIO pure (scriptOf protocol)
   path <- findProgram (exploreProgram options)
   let words' = "explore" : maybe [] (\most -> ["--max-states", show most]) (maxStates options) ++ ["--all" | allStates options]
+        ++ ["--progress" | asksProgress options]
   (status, text, said) <- runOnce path words' (Bytes.pack (unlines script))
   let refusedAtLine = [number | it <- lines said, Just rest <- [Bytes.stripPrefix "stmdesk: script line " (Bytes.pack it)]
                     , Just (number, _) <- [Bytes.readInt rest]]
@@ -261,6 +283,8 @@ explorationIn protocol places text = case text of
       ["deadlock"] -> Just Deadlock
       ["broken", "line", at] | Just (Left name) <- placeOf at -> Just (Broken name)
       ["missed", "line", at] | Just (Right place') <- placeOf at -> Just (Missed place')
+      ["stuck", "client", at] | Just number <- decimal at, client : _ <- drop number (clientsOf protocol) -> Just (Stuck (clientName client))
+      ["never", "reached", "line", at] | Just (Left name) <- placeOf at -> Just (NeverReached name)
       _ -> Just (OtherFault (Bytes.unpack it))
     placeOf it = decimal it >>= (`IntMap.lookup` places)
     orderIn some = case map Bytes.words (take 1 some) of
@@ -295,6 +319,8 @@ explained found = unlines (what : [show n ++ ". " ++ placed it | (n, it) <- zip 
       Deadlock -> "deadlock"
       Broken name -> "broken: " ++ name
       Missed it -> "missed: " ++ placed it
+      Stuck name -> "stuck: " ++ name
+      NeverReached name -> "never reached: " ++ name
       OtherFault it -> it
     placed it = clientNamed it ++ ": " ++ stepNamed it
     held = [placed it ++ " waits for a change of " ++ intercalate ", " (map read' them) | (it, Waits them) <- heldUp found]
