@@ -161,6 +161,7 @@ def need_variable(it: Object) -> None:
 def need_waiting(it: Object) -> None:
     need_number(it["ticket"])
     need_text(it["block"])
+    need_text(it.get("label", ""))
     if "verdict" in it:
         need_verdict(it["verdict"])
         need_pairs(it["reads"], need_number)
@@ -169,7 +170,7 @@ def need_waiting(it: Object) -> None:
 
 def need_event(it: Object) -> None:
     kind = it["event"]
-    need(kind in ("declared", "submitted", "installed", "finished", "cancelled"))
+    need(kind in ("declared", "submitted", "installed", "finished", "cancelled", "labelled"))
     need_number(it.get("client", 0))
     if kind == "declared":
         need_text(it["name"])
@@ -179,6 +180,8 @@ def need_event(it: Object) -> None:
     need_number(it["ticket"])
     if kind == "submitted":
         need_text(it["block"])
+    elif kind == "labelled":
+        need_text(it["label"])
     elif kind != "cancelled":
         need_verdict(it["verdict"])
     if kind == "finished":
@@ -250,6 +253,8 @@ class Replay:
             self.texts[ticket], self.reads[ticket] = event["block"], None
         elif kind == "installed":
             effect.reads = self.reads[ticket] = self.reads_of(self.texts[ticket], event["verdict"])
+        elif kind == "labelled":
+            return effect
         else:
             del self.texts[ticket], self.reads[ticket]
         if kind == "finished":

@@ -48,6 +48,10 @@ function sign(c, kind, x, y, r) {
     c.beginPath(); c.moveTo(x, y - r); c.lineTo(x + r, y); c.lineTo(x, y + r); c.lineTo(x - r, y); c.closePath();
     c.fillStyle = color.declared; c.fill(); return;
   }
+  if (kind == "l") {
+    c.beginPath(); c.rect(x - r * 0.5, y - r * 0.5, r, r); c.lineWidth = Math.max(1, r / 4.5);
+    c.fillStyle = color.paper; c.fill(); c.strokeStyle = color.ink; c.stroke(); return;
+  }
   c.beginPath(); c.lineWidth = Math.max(1, r / 4.5);
   if (r < 3.2) {
     c.fillStyle = c.strokeStyle = kind == "f" ? color.finished : kind == "t" ? color.throws : kind == "c" ? color.cancelled : color.ink;
@@ -161,7 +165,7 @@ function inside(c, life, i, left, right, y) {
   let text = prefix;
   if (what == "stale") text += causes(life, i).map(changeText).join(", ");
   else if (what != "new") text += verdictText(life.verdict[i], first);
-  else if (S.by == "client") text += oneLine(blockOf(life)).slice(0, 200);
+  else if (S.by == "client") text += titleOf(life).slice(0, 200);
   if (what == "stale" && c.measureText(text).width > free) text = prefix + causes(life, i).map(it => nameOf(it[0])).join(" ");
   text = shorten(c, text, free) || shorten(c, prefix, free);
   if (!text) return;
@@ -189,6 +193,7 @@ function marks(c, index, touched) {
     if (touched?.get(life.at[i]) == "R") badge(c, "R", x, y);
     last = x;
   }
+  for (const [e] of life.named) if (e && r > 1.4 && e >= S.from - 1 && e <= S.to + 1) sign(c, "l", X(e), y, r);
   if (life.end && life.end <= S.to + 1) {
     sign(c, endKind(life), X(life.end), y, Math.max(r, 1.4));
     if (touched?.get(life.end) == "W") badge(c, "W", X(life.end), y);
@@ -297,7 +302,7 @@ function labels(c, first, last) {
     c.font = `${small ? 9 : 11}px ${FONT}`; c.fillStyle = color.muted; c.textAlign = "right";
     if (life) c.fillText(life.ticket, wide, y);
     c.font = `${small ? 9 : 11}px ${MONO}`; c.fillStyle = color.ink; c.textAlign = "left";
-    const text = L.lane < 11 ? "" : life ? oneLine(blockOf(life)) : at > first && all.label[row] == all.label[L.lanes[at - 1]] ? "" : all.label[row];
+    const text = L.lane < 11 ? "" : life ? titleOf(life) : at > first && all.label[row] == all.label[L.lanes[at - 1]] ? "" : all.label[row];
     if (text) c.fillText(shorten(c, text.slice(0, 80), L.gutter - (life ? wide : 0) - 18), (life ? wide : 0) + 8, y);
   }
   c.restore();
@@ -342,6 +347,7 @@ function overview() {
 
 function legend() {
   const signs = [["s", "submitted"], ["i", "evaluated"], ["f", "finished"], ["t", "finished by a throw"], ["c", "cancelled"]];
+  if (data.kinds.includes("l")) signs.push(["l", "labelled"]);
   if (declaredAt.length) signs.push(["d", "variable declared"]);
   const looks = [["new", "new"], ["commits", "current"], ["blocks", "current, blocks"], ["throws", "current, throws"], ["stale", "stale"]];
   $("legend").replaceChildren(...[...signs, ...looks, ["arrow", "makes stale"]].map(([kind, text]) => {

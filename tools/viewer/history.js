@@ -17,9 +17,10 @@ const kindOf = e => data.kinds[e - 1], argOf = e => data.arg[e - 1], readsAt = e
 
 function build() {
   const waiting = new Map();
-  for (const [ticket, block, state, verdict, reads] of data.waiting) {
+  for (const [ticket, block, state, verdict, reads, label] of data.waiting) {
     waiting.set(ticket, lives.length);
-    lives.push({ticket, client: 0, block, start: 0, end: 0, how: "", at: [0], state: [state], verdict: [verdict], reads: [reads], why: [0]});
+    const stretches = {at: [0], state: [state], verdict: [verdict], reads: [reads], why: [0]};
+    lives.push({ticket, client: 0, block, start: 0, end: 0, how: "", named: [[0, label]], ...stretches});
   }
   for (let e = 1; e <= E; e++) {
     const kind = kindOf(e), ticket = data.ticket[e - 1];
@@ -31,11 +32,12 @@ function build() {
     if (kind == "s") {
       waiting.set(ticket, lives.length);
       const stretches = {at: [e], state: [NEW], verdict: [-1], reads: [-1], why: [0]};
-      lives.push({ticket, client: data.client[e - 1] || 0, block: argOf(e), start: e, end: 0, how: "", ...stretches});
+      lives.push({ticket, client: data.client[e - 1] || 0, block: argOf(e), start: e, end: 0, how: "", named: [], ...stretches});
     }
     const index = lifeOf[e] = waiting.get(ticket), life = lives[index];
     if (kind == "i") turn(life, e, CURRENT, argOf(e), readsAt(e), 0);
     if (kind == "f") finish(e, life, waiting);
+    if (kind == "l") life.named.push([e, argOf(e)]);
     if (kind == "c") life.how = "cancelled";
     if (kind == "f" || kind == "c") { life.end = e; waiting.delete(ticket); }
   }
@@ -85,7 +87,10 @@ function causes(life, i) {
   return (changes[life.why[i]] || []).filter(it => !known || known.includes(it[0]));
 }
 
-const eventsOf = life => (life.end ? [...life.at, life.end] : life.at).filter(e => e);
+// A block's label after its last event.
+const labelOf = life => life.named.length ? data.labels[life.named.at(-1)[1]] : "";
+
+const eventsOf = life => [...life.at, ...life.named.map(it => it[0]), life.end].filter(e => e).sort((a, b) => a - b);
 
 // The events that read or write a variable: [event, "R" or "W"].
 const touchMemo = new Map();

@@ -138,7 +138,7 @@ function hitHtml(it) {
   if (it.arrow) return arrowHtml(it.arrow);
   if (it.declared) return `<p><b>Event ${it.declared}</b>: ${esc(eventText(it.declared))}</p>`;
   const life = lives[it.life], i = it.part;
-  let text = `<p><b>Ticket ${life.ticket}</b> <span class="muted">client ${life.client}</span>${i < 0 ? ` ${esc(outcome(life))}` : ""}</p>`;
+  let text = `<p><b>Ticket ${life.ticket}</b> ${labelHtml(labelOf(life))}<span class="muted">client ${life.client}</span>${i < 0 ? ` ${esc(outcome(life))}` : ""}</p>`;
   if (it.event) text += `<p>Event ${it.event}: ${esc(eventText(it.event))}</p>`;
   else if (i >= 0) {
     const end = endOf(life, i) > E ? "on" : `to ${endOf(life, i)}`, said = life.state[i] == NEW ? "" : ": " + esc(verdictText(life.verdict[i]));

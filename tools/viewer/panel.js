@@ -14,6 +14,11 @@ function eventHtml(e) {
   if (kind == "s") text += `<p>${ticketLink(index)} is <b>submitted</b>.</p>${pretty(blockOf(life))}`;
   if (kind == "i") text += `<p>${ticketLink(index)} is <b>evaluated</b>: ${esc(verdictText(argOf(e)))}.</p><p>It ${readsHtml(life.reads[i], e)}.</p>`;
   if (kind == "i") text += pretty(blockOf(life));
+  if (kind == "l") {
+    const label = data.labels[argOf(e)];
+    text += `<p>${label ? `${ticketLink(index)} is <b>labelled</b> <span class="mono">${esc(label)}</span>` : `The label of ${ticketLink(index)} is taken away`}.</p>`;
+    text += pretty(blockOf(life));
+  }
   if (kind == "c") text += `<p>${ticketLink(index)} is <b>cancelled</b>.</p>${pretty(blockOf(life))}`;
   if (kind == "f") {
     const made = madeStale[e] || [], changed = changes[e] || [];
@@ -43,21 +48,24 @@ finished, ${ended("throws")} threw, ${ended("cancelled")} were cancelled and ${e
 
 function ticketHtml(index) {
   if (index < 0) return '<p class="muted">Choose a ticket: click its lane.</p>';
-  const life = lives[index], at = stretchAt(life, S.at);
-  const line = i => {
-    i += life.start ? 0 : 1; // what it was before the first event isn't listed
-    if (i == life.at.length) return esc(outcome(life));
+  const life = lives[index], at = stretchAt(life, S.at), all = eventsOf(life);
+  const line = place => {
+    const e = all[place], i = lastUpTo(life.at, e);
+    if (e == life.end) return esc(outcome(life));
+    if (kindOf(e) == "l") return esc(eventText(e));
     if (life.state[i] == NEW) return "submitted";
     if (life.state[i] == STALE) return `<b>stale</b>: ${whyHtml(life, i)}`;
     return `evaluated: ${esc(verdictText(life.verdict[i]))}; ${readsHtml(life.reads[i], life.at[i])}`;
   };
   const now = S.at < life.start ? "not submitted yet" : at < 0 ? outcome(life) : stateText(life, at);
-  let text = `<h2>Ticket ${life.ticket} <span class="muted">client ${life.client}</span></h2><p>At event ${S.at}: <b>${esc(now)}</b></p>`;
+  let text = `<h2>Ticket ${life.ticket} ${labelHtml(labelOf(life))}<span class="muted">client ${life.client}</span></h2><p>At event ${S.at}: <b>${esc(now)}</b></p>`;
   const since = life.why[at] ? `${eventLink(life.why[at])}: ` : "";
   if (at >= 0 && life.state[at] == STALE) text += `<p>Why stale: ${since}${whyHtml(life, at)}</p>`;
   if (at > 0) text += `<p>It ${readsHtml(life.reads[at], evaluatedAt(life, at))}.</p>`;
-  return text + pretty(blockOf(life)) + "<h3>Its events</h3>" + listHtml(eventsOf(life), line);
+  return text + pretty(blockOf(life)) + "<h3>Its events</h3>" + listHtml(all, line);
 }
+
+const labelHtml = label => label ? `<span class="mono">${esc(label)}</span> ` : "";
 
 // The event of the last evaluation in or before a stretch that isn't new.
 const evaluatedAt = (life, i) => life.at[life.state[i] == STALE && i ? i - 1 : i];

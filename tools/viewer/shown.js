@@ -24,7 +24,7 @@ function rows() {
     const key = life => S.by == "client" ? life.client : life.block, groups = new Map();
     const begins = lives.flatMap((life, i) => life.start ? [] : [i]), events = Array.from({length: E}, (_, i) => i + 1);
     for (const [index, kind] of [...begins.map(i => [i, "s"]), ...events.map(e => [lifeOf[e], kindOf(e)])]) {
-      if (kind == "i" || kind == "d") continue;
+      if (kind == "i" || kind == "d" || kind == "l") continue;
       const life = lives[index];
       if (!groups.has(key(life))) groups.set(key(life), {rows: [], free: []});
       const group = groups.get(key(life));
@@ -51,14 +51,15 @@ const passes = e => lifeOf[e] < 0 ? !isFiltered() : shown[lifeOf[e]];
 function filter() {
   version++;
   const variable = S.name ? store.findIndex((it, i) => it.name == S.name || "#" + i == S.name) : -1;
-  const touched = new Uint8Array(lives.length), found = data.blocks.map(it => oneLine(it).toLowerCase().includes(S.text.toLowerCase()));
+  const touched = new Uint8Array(lives.length), isFound = it => oneLine(it).toLowerCase().includes(S.text.toLowerCase());
+  const found = data.blocks.map(isFound), named = data.labels.map(isFound);
   if (variable >= 0) for (const [e] of touching(variable)) touched[lifeOf[e]] = 1;
   shown = new Uint8Array(lives.length);
   lives.forEach((life, i) => {
     const at = stretchAt(life, S.at), state = S.state;
     const fits = !state || state == "was" && life.state.includes(STALE) || state == "waits" && !life.end || state == life.how
       || at >= 0 && (state == STATES[life.state[at]] || state == "blocks" && life.state[at] == CURRENT && data.verdicts[life.verdict[at]] === 0);
-    shown[i] = fits && (!S.text || found[life.block] || String(life.ticket) == S.text.trim()) && (!S.name || touched[i]);
+    shown[i] = fits && (!S.text || found[life.block] || life.named.some(it => named[it[1]]) || String(life.ticket) == S.text.trim()) && (!S.name || touched[i]);
   });
   redraw();
 }

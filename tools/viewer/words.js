@@ -29,6 +29,7 @@ function verdictText(index, first) {
 const changeText = ([variable, before, after]) => `${nameOf(variable)} ${valueText(before)} → ${valueText(after)}`;
 const blockOf = life => data.blocks[life.block];
 const oneLine = text => text.replace(/\s+/g, " ");
+const titleOf = life => (labelOf(life) ? labelOf(life) + ": " : "") + oneLine(blockOf(life));
 
 // How a ticket's life ends, or stands at the last event.
 function outcome(life) {
@@ -89,6 +90,7 @@ function eventText(e) {
   if (kind == "d") return "declared: " + declarationText(e);
   if (kind == "s") return `submitted: ${oneLine(blockOf(life)).slice(0, 200)}`;
   if (kind == "i") return `evaluated: ${verdictText(argOf(e))}`;
+  if (kind == "l") return data.labels[argOf(e)] ? `labelled: ${data.labels[argOf(e)]}` : "its label is taken away";
   if (kind == "c") return "cancelled";
   const made = madeStale[e] || [], tickets = some(made, 8, it => lives[it].ticket);
   return `finished: ${verdictText(argOf(e), firstNew[e])}` + (made.length ? `; makes ${tickets} stale` : "");
