@@ -138,18 +138,19 @@ class Engine:
 
     def run(self, workers: int = 4) -> None:
         """Runs all jobs to their end."""
-        threads = [threading.Thread(target=self.worker) for _ in range(workers)]
+        threads = [threading.Thread(target=self.worker, args=(f"worker-{it}",)) for it in range(1, workers + 1)]
         for thread in threads:
             thread.start()
         for thread in threads:
             thread.join()
 
-    def worker(self) -> None:
+    def worker(self, name: str) -> None:
+        """Runs jobs. While its block waits, the name is its label."""
         with suppress(Ended, ValueError):  # the desk was closed, after Ctrl-C for example; whoever uses it next sees that
             while True:
                 count = self.count
                 left = [self.notes.jobs[it] for it in range(1, count + 1) if it not in self.over]
-                number = self.desk.atomically(following(left[:MOST], count))
+                number = self.desk.atomically(following(left[:MOST], count), label=name)
                 assert isinstance(number, int)
                 if number > 0:
                     self.try_job(self.notes.jobs[number])

@@ -18,10 +18,10 @@ from pathlib import Path
 
 sys.path.insert(0, str(Path(__file__).resolve().parents[2] / "clients" / "python"))
 
-from stmdesk import Current, Desk, DeskError, New, Ready, Reason, Refused, StaleBefore, StaleBy, Status, Submission, connect
+from stmdesk import Desk, DeskError, Entry, New, Ready, Reason, StaleBefore, StaleBy, connect
 from stmdesk import Value as StmValue
 
-HEADS = ("ticket", "status", "for", "waits for")
+HEADS = ("ticket", "label", "status", "for", "waits for")
 
 
 def told(value: StmValue) -> str:
@@ -44,52 +44,29 @@ def reason(why: Reason) -> str:
     return f"a change of {reads}" if reads else "nothing that could change: it read no variable"
 
 
-def state(status: Status) -> str:
-    """How a block stands, in a word of the console."""
-    return "new" if isinstance(status, New) else "current" if isinstance(status, Current) else "stale"
-
-
 class Page:
-    """The page. It knows since when it has seen each ticket, since a desk has no clock, and the texts of the blocks that were submitted."""
+    """The page. It knows since when it has seen each ticket: a desk has no clock."""
 
     def __init__(self, desk: Desk) -> None:
         self.desk = desk
         self.seen: dict[int, float] = {}
-        self.texts: dict[int, str] = {}
-        self.next = 1
-
-    def read_texts(self) -> None:
-        """Reads the texts of the blocks that were submitted since the last page. Those from before a checkpoint aren't among the events."""
-        events = self.desk.events(self.next)
-        if events.next < self.next:  # a checkpoint was made: the events are counted from 1 again
-            events = self.desk.events()
-        self.texts.update((it.ticket, it.block) for it in events if isinstance(it, Submission))
-        self.next = events.next
-
-    def entries(self) -> Iterable[tuple[Status, Reason]]:
-        """Each block that waits, and what it waits for."""
-        for status in self.desk.show():
-            with suppress(Refused):  # it has gone meanwhile
-                yield status, self.desk.why(status.ticket)
 
     def text(self, columns: int) -> str:
         """The page as it is now, in lines of at most so many characters."""
-        entries, now = list(self.entries()), time.monotonic()
-        self.read_texts()
-        waiting = [status.ticket for status, _ in entries]
-        self.seen = {ticket: self.seen.get(ticket, now) for ticket in waiting}
-        self.texts = {ticket: self.texts.get(ticket, "") for ticket in waiting}
-        rows = [HEADS, *(self.row(status, why, int(now - self.seen[status.ticket])) for status, why in entries)]
+        entries, now = self.desk.board(), time.monotonic()
+        self.seen = {it.ticket: self.seen.get(it.ticket, now) for it in entries}
+        rows = [HEADS, *(self.row(it, int(now - self.seen[it.ticket])) for it in entries)]
         widths = [max(len(row[at]) for row in rows) for at in range(len(HEADS) - 1)]
         lines = []
-        for row, ticket in zip(rows, [None, *waiting]):
+        for row, entry in zip(rows, [None, *entries]):
             lines.append("  ".join([*(f"{it:{width}}" for it, width in zip(row, widths)), row[-1]]))
-            lines += [" " * (widths[0] + 2) + self.texts[ticket]] if ticket is not None and self.texts[ticket] else []
+            lines += [] if entry is None else [" " * (widths[0] + 2) + (entry.block or "")]
         count = "1 block waits" if len(entries) == 1 else f"{len(entries)} blocks wait"
         return "\n".join(it if len(it) <= columns else it[: columns - 1] + "…" for it in [*lines, count, ""])
 
-    def row(self, status: Status, why: Reason, seconds: int) -> tuple[str, ...]:
-        return str(status.ticket), state(status), f"{seconds} s", reason(why)
+    def row(self, entry: Entry, seconds: int) -> tuple[str, ...]:
+        assert entry.why is not None
+        return str(entry.ticket), entry.label or "-", entry.state, f"{seconds} s", reason(entry.why)
 
 
 # What is shown if no SOCKET is given.
@@ -99,18 +76,22 @@ PUT = "do { j <- readTVar slot; n <- readTVar given; if j == 0 then do { writeTV
 REPORT = "do { n <- readTVar given; if n < 1000 then retry else return n }"
 
 
-def begin(desk: Desk, block: str, pause: float) -> None:
-    """Runs the block again and again in a thread of its own, with a pause between. Returns when one more block waits."""
-    before = len(desk.show())
+def waits_with(desk: Desk, label: str) -> bool:
+    """Whether a block with this label waits."""
+    return any(it.label == label for it in desk.board(blocks=False, reasons=False))
+
+
+def begin(desk: Desk, label: str, block: str, pause: float) -> None:
+    """Runs the block again and again in a thread of its own, with a pause between. Returns when it waits for the first time."""
 
     def work() -> None:
         with suppress(DeskError, ValueError):  # the desk is closed
             while True:
-                desk.atomically(block)
+                desk.atomically(block, label=label)
                 time.sleep(pause)
 
     threading.Thread(target=work, daemon=True).start()
-    while len(desk.show()) == before:
+    while not waits_with(desk, label):
         time.sleep(0.001)
 
 
@@ -119,10 +100,10 @@ def begin_work(desk: Desk, once: bool) -> None:
     one page."""
     for declaration in ("slot : Int = 0", "given : Int = 0"):
         desk.variable(declaration)
-    for _ in range(2):
-        begin(desk, TAKE, 1.5)
-    begin(desk, REPORT, 0)
-    desk.submit("writeTVar given 0")
+    for label in ("worker-1", "worker-2"):
+        begin(desk, label, TAKE, 1.5)
+    begin(desk, "report", REPORT, 0)
+    desk.submit("writeTVar given 0", label="reset?")
     if not once:
         threading.Thread(target=give, args=(desk,), daemon=True).start()
 
@@ -132,7 +113,7 @@ def give(desk: Desk) -> None:
     with suppress(DeskError, ValueError):
         while True:
             time.sleep(1)
-            desk.atomically(PUT)
+            desk.atomically(PUT, label="giver")
 
 
 def pages(desk: Desk, once: bool, every: float) -> Iterable[str]:
