@@ -41,11 +41,26 @@ def reads_text(reads):
     return " ".join(f"#{it}={shown(value)}" for it, value in reads.items()) or "none"
 
 
-class Waiter:
-    """A waiting block: its action; if there was a delivery what it read and its verdict then; and if it is stale why, as `why` prints it."""
+def words_of(text):
+    """The words of an argument, between blanks of the console."""
+    return re.findall(r"[^ \t\r]+", text)
 
-    def __init__(self, action):
-        self.action, self.reads, self.verdict, self.stale = action, None, None, None
+
+def labelling(text):
+    """The ticket and the label that an argument of `label` gives, or None. The label is empty if there is no second word."""
+    words = words_of(text)
+    ticket, label = [*words, "", ""][:2]
+    is_ticket = re.fullmatch(r"[0-9]{1,10}", ticket) and int(ticket) <= 4294967295
+    is_label = len(label) <= 64 and label != "-" and all("!" <= it <= "~" for it in label)
+    return (int(ticket), label) if is_ticket and is_label and len(words) <= 2 else None
+
+
+class Waiter:
+    """A waiting block: its action, its text and its label, empty if it has none; if there was a delivery what it read and its verdict then; and
+    if it is stale why, as `why` prints it."""
+
+    def __init__(self, action, text):
+        self.action, self.text, self.label, self.reads, self.verdict, self.stale = action, text, "", None, None, None
 
     @property
     def is_new(self):
@@ -180,7 +195,7 @@ class Desk:
         action = blocks.parsed(text, self.names)
         self.record()
         ticket, self.next = self.next, self.next + 1
-        self.waiters[ticket] = Waiter(action)
+        self.waiters[ticket] = Waiter(action, text)
         return [f"ticket {ticket}"]
 
     def do_atomically(self, text):
@@ -264,6 +279,25 @@ class Desk:
             how = "new" if waiter.is_new else f"{'stale' if waiter.stale else 'current'} {verdict_text(waiter.verdict)}"
             lines.append(f"{ticket} {how}")
         return [*lines, f"waiting {len(self.waiters)}"]
+
+    def do_board(self, _):
+        lines = self.do_show("")
+        return [*(f"{line} {waiter.label or '-'}" for line, (_, waiter) in zip(lines, sorted(self.waiters.items()))), lines[-1]]
+
+    def do_block(self, ticket):
+        waiter = self.waiters.get(int(ticket))
+        return ["refused NoTicket" if waiter is None else f"block {ticket} " + re.sub(r"[\r\n]", " ", waiter.text)]
+
+    def do_label(self, text):
+        found = labelling(text)
+        if found is None:
+            return ["refused Argument"]
+        ticket, label = found
+        if ticket not in self.waiters:
+            return ["refused NoTicket"]
+        self.record()
+        self.waiters[ticket].label = label
+        return [f"labelled {ticket} {label or '-'}"]
 
     def do_reads(self, ticket):
         waiter = self.waiters.get(int(ticket))

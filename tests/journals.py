@@ -147,8 +147,11 @@ def text_of(lines):
     return "".join(f"{it}\n" for it in lines).encode()
 
 
+QUESTIONS = b"board\nstore\n"  # what they answer is a state: `board` also has what `show` answers
+
+
 class States:
-    """A script of which a read gets one line, or some: what is answered, and what `show` and `store` answer after each line."""
+    """A script of which a read gets one line, or some: what is answered, and the state after each line."""
 
     def __init__(self, program, lines):
         self.lines, self.answers, self.states = lines, [], []
@@ -157,7 +160,7 @@ class States:
             text = text_of(lines[:count])
             answer = plain(program, text) if count else b""
             self.answers.append(uncounted(answer))
-            self.states.append(plain(program, text + b"show\nstore\n")[len(answer) :])
+            self.states.append(plain(program, text + QUESTIONS)[len(answer) :])
 
     def place(self, program, path, printed, *words, ahead=1):
         """How many lines a file stands for after a crash, and None or what is wrong with that: they are the lines that were answered,
@@ -167,7 +170,7 @@ class States:
         if not self.answers[-1].startswith(printed):
             return 0, f"{printed[-200:]!r} was printed"
         count = next(count for count, it in enumerate(self.answers) if len(it) >= len(printed))
-        done = Done(program, path, b"show\nstore\n", *words)
+        done = Done(program, path, QUESTIONS, *words)
         if count <= self.declared and len(left) > 1 and left[:1] not in b"\0{":
             return 0, judge_refused(done, path, 3, "bad header")
         allowed = range(count, min(count + ahead, len(self.lines)) + 1)
@@ -183,7 +186,7 @@ class States:
         run that goes on from there comes to the same end."""
         found, said = self.place(program, path, printed, *words, ahead=ahead)
         if said is None and found > self.declared:
-            done = Done(program, path, text_of(self.lines[found:]) + b"show\nstore\n", *words)
+            done = Done(program, path, text_of(self.lines[found:]) + QUESTIONS, *words)
             if done.status or not done.printed.endswith(self.states[-1]):
                 return f"it goes on in another way: {done}"
             checked = subprocess.run([program, "check"], input=front(path.read_bytes()), capture_output=True, timeout=SECONDS, check=False)

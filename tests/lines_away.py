@@ -13,7 +13,7 @@ import transcript
 
 FOLDER = pathlib.Path(__file__).resolve().parent.parent / "examples" / "explore"
 STEP = re.compile(r"(finish|choose) ")
-FAULT = re.compile(r"(?m)^(deadlock$|(broken|missed|failed|threw) line )")
+FAULT = re.compile(r"(?m)^(deadlock$|(broken|missed|failed|threw|never reached) line |stuck client )")
 NO_STEP = re.compile(r"(?m)^stmdesk: script line \d+: Argument$")
 LESS = "with one choice less there are fewer orders"
 REASONS = {  # by scripts, the numbers of lines without which nothing is wrong, and why
@@ -22,6 +22,7 @@ REASONS = {  # by scripts, the numbers of lines without which nothing is wrong, 
     "lost_message_sent_again": {(11,): LESS, (13,): "the message is sent a second time unless there is a receipt"},
     "peterson": {(24, 53): "in round 2 the process says again that it wants to go in, and gives the turn away before it waits"},
     "philosophers_both_at_once": {(9, 15, 21): "who takes no forks keeps nobody from them, and nothing checks who eats"},
+    "polled_token": {(12,): LESS},
     "readers_writers": {(28, 36): "a reader that doesn't look at the page finds nothing wrong with it"},
     "readers_writers_writer_first": {(20,): "the writer stays inside until its second round ends"},
     "ring_buffer": {
@@ -40,6 +41,10 @@ REASONS = {  # by scripts, the numbers of lines without which nothing is wrong, 
         (25,): "the log is still empty when the coordinator next looks into it, and it aborts",
     },
     "wakeup": {(10,): "who doesn't fall asleep isn't waited for, and doesn't wait", (11,): "who doesn't wait needs nobody who wakes it"},
+    "wakeup_beside_a_clock": {
+        (13, 14): "a worker that doesn't go to sleep, or doesn't wait to be woken, takes each job",
+        (22,): "a dispatcher that leaves no job waits for nothing, and wakes the worker",
+    },
 }
 
 
@@ -48,10 +53,10 @@ def right():
     return [it for it in sorted(FOLDER.glob("*.stm")) if it.with_suffix(".out").read_bytes().endswith(b"\nright\n")]
 
 
-def judge(program, lines, number, reason):
-    """None, or what is wrong with what is found without the line of this number."""
+def judge(program, options, lines, number, reason):
+    """None, or what is wrong with what is found with these options without the line of this number."""
     text = "".join(it + "\n" for at, it in enumerate(lines, 1) if at != number)
-    done = subprocess.run([program, "explore"], input=text, capture_output=True, text=True, timeout=transcript.SECONDS)
+    done = subprocess.run([program, "explore", *options], input=text, capture_output=True, text=True, timeout=transcript.SECONDS)
     refused = done.returncode == 1 and "repeat" in lines and NO_STEP.search(done.stderr)
     if refused or (done.returncode == 3 and FAULT.search(done.stdout)):
         return reason and f"something is wrong, so there is no need of the reason {reason!r}"
@@ -71,7 +76,7 @@ def judged(program, part):
             steps.add((path.stem, number))
             name = f"explore {path.name} without line {number}"
             if part in name:
-                yield name, judge(program, lines, number, reasons.get(number))
+                yield name, judge(program, transcript.options_of(path), lines, number, reasons.get(number))
     name = "explore: the reasons why lines may be taken away"
     extra = [(script, it) for script, found in REASONS.items() for numbers in found for it in numbers if (script, it) not in steps]
     if part in name:

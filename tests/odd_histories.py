@@ -14,6 +14,7 @@ CHECKPOINT = b'{"format":4,"next":3,"vars":1,"waiting":1}\n{"count":0,"init":1,"
 WAITING = b'{"block":"readTVar x","reads":[[0,1]],"stale":false,"ticket":1,"verdict":{"commits":{"news":[],"result":1,"writes":[]}}}\n'
 LATE = HEAD.replace(b'"format":3', b'"format":5')
 DECLARED = b'{"client":0,"event":"declared","init":2,"name":"y","type":"Int"}\n'
+LABELLED = b'{"client":0,"event":"labelled","label":"job7","ticket":1}\n'
 SUBMITTED = b'{"block":"readTVar x","client":0,"event":"submitted","ticket":1}\n'
 FINISHED = (
     b'{"client":0,"event":"finished","first_new":1,"stale":[],"ticket":1,'
@@ -44,6 +45,7 @@ def odd():
     waiting = changed(WAITING, b'"ticket":1', NO_NUMBERS) + changed(WAITING, b'"block":"readTVar x"', [b"7", b"null", b"[]"])
     waiting += changed(WAITING, b'"reads":[[0,1]]', NO_WRITES) + changed(WAITING, b'"stale":false', [b"0", b'"false"', b"null"])
     waiting += changed(WAITING, b'"verdict":{"commits":{"news":[],"result":1,"writes":[]}}', NO_VERDICTS)
+    waiting += [WAITING.replace(b'"reads"', b'"label":%s,"reads"' % it) for it in (b"7", b"null", b"[]", b"true")]
     for text in [*waiting, WAITING.replace(b'"reads":[[0,1]],', b""), WAITING.replace(b'"stale":false,', b"")]:
         yield CHECKPOINT + text + FINISHED, "line 3 is no waiting block that can be drawn here"
     yield CHECKPOINT.replace(b'"waiting":1', b'"waiting":2') + WAITING + WAITING + FINISHED, "ticket 1 waits twice"
@@ -58,6 +60,9 @@ def odd():
     for text in changed(DECLARED, b'"type":"Int"', [b"7", b"null", b"{}"]) + changed(DECLARED, b'"client":0', NO_NUMBERS):
         yield LATE + text, "line 3 is no event that can be drawn here"
     yield LATE + DECLARED + DECLARED, "line 4 is no event that can be drawn here"
+    labels = changed(LABELLED, b'"label":"job7"', [b"7", b"null", b"[]", b"true"]) + changed(LABELLED, b'"ticket":1', [*NO_NUMBERS, b"2"])
+    for text in [*labels, LABELLED.replace(b'"label":"job7",', b""), *changed(LABELLED, b'"client":0', NO_NUMBERS)]:
+        yield LATE + SUBMITTED + text, "line 4 is no event that can be drawn here"
     for header in changed(CHECKPOINT.partition(b"\n")[0].replace(b"4", b"5"), b'"waiting":1', [b"-1", b"true", b"1.0", b"null"]):
         yield header + CHECKPOINT[CHECKPOINT.index(b"\n") :] + WAITING + FINISHED, "this is no history of format 1 to 5"
     for text in changed(SUBMITTED, b'"block":"readTVar x"', [b"7", b"null", b"[]"]) + changed(SUBMITTED, b'"ticket":1', NO_NUMBERS):

@@ -26,6 +26,7 @@ class Waiter:
 
     def __init__(self, text, names):
         self.text, self.action, self.store_then, self.changed = text, blocks.parsed(text, names), None, set()
+        self.label = ""  # the empty text if it has none
         self.was_stale = False  # when the history began, and there was no delivery since
 
     def on(self, store):
@@ -63,6 +64,7 @@ class Reference:
     def wait(self, line):
         """Takes in a block that waits when the history begins. The store of its last delivery is the present one with what it read."""
         waiter = self.waiters[line["ticket"]] = Waiter(line["block"], self.names)
+        waiter.label = line.get("label", "")
         if "verdict" in line:
             waiter.deliver(with_values(self.store, line["reads"]))
             if line["stale"]:
@@ -88,6 +90,8 @@ class Reference:
         elif event["event"] == "installed":
             waiter = self.waiters[ticket]
             waiter.deliver(self.store)
+        elif event["event"] == "labelled":
+            self.waiters[ticket].label = event["label"]
         else:
             waiter = self.waiters.pop(ticket)
         if event["event"] == "finished":

@@ -15,6 +15,8 @@ BROKEN = {
     "i9 : TVar TVar Int = x": "Unexpected 10", "do : Int = 1": "Unexpected 0", "i9 : Int = 9223372036854775808": "BadNumber 11",
     "i9 : Int = -1": "Unexpected 11", "X : Int = 1": "Unexpected 0",
 }  # fmt: skip
+LABELS = ["job7", "job8", "a", "!", "--", "--x", "-1", '"\\{}', "~" * 64]
+NO_LABELS = ["-", "a b", "~" * 65, "a\x1f", "\x7f", "a -"]  # which no block can have
 BLOCKS = {  # texts with their weights; V is a variable of numbers, S one of references to such, N a number, A a block
     "readTVar V": 2,
     "writeTVar V N": 4,
@@ -58,6 +60,11 @@ def declaration(chance, names):
     name = chance.choice(list(names)) if chance.random() < 0.05 else f"{letter}{chance.randrange(chance.choice([4, 20]))}"
     kind = chance.choice(list(LATE.values())) if chance.random() < 0.1 else LATE[letter]
     return f"{name} : {kind} = {chance.choice(first[letter])}"
+
+
+def labelling(chance, ticket):
+    """A random argument of `label` for this ticket. Most give a label, some take one away, and few are refused."""
+    return f"{ticket}{chance.choices(['', f' {chance.choice(LABELS)}', f' {chance.choice(NO_LABELS)}'], [2, 8, 1])[0]}"
 
 
 def filled(chance, text, depth=0, names=()):
@@ -116,8 +123,9 @@ def command(chance, reference, jobs):
             f"deliver {chance.randrange(jobs + 2)}",
             f"handback {some}",
             f"cancel {some}",
+            "label " + labelling(chance, some),
             "settle",
             "drain",
         ],
-        [9, 3, 5, 9, 1, 3, 4 if jobs else 0, 1, 1, 0.3, 0.3],
+        [9, 3, 5, 9, 1, 3, 4 if jobs else 0, 1, 1, 2, 0.3, 0.3],
     )[0]

@@ -20,7 +20,7 @@ import blocks
 import histories
 from questions_reference import Reference, is_same, with_values
 
-KEYS = ("declared", "submitted", "installed", "finished", "cancelled")
+KEYS = ("declared", "submitted", "installed", "finished", "cancelled", "labelled")
 NOT_A_BLOCK = (ValueError, LookupError, RecursionError)
 RESERVED = "do let if then else return readTVar writeTVar newTVar retry orElse throw catch True False Int Bool TVar".split()
 MOST_CELLS, MOST_WAITING, MOST_NEXT, MOST_COUNT = 1_000_000, 65_536, 4_293_918_719, 2**64 - 1
@@ -54,6 +54,12 @@ def json_of(line):
 
 def is_number(value, most=4294967295):
     return type(value) is int and 0 <= value <= most
+
+
+def label_of(value):
+    """A label of a block; the empty text says that there is none."""
+    need(isinstance(value, str) and len(value) <= 64 and value != "-" and all("!" <= it <= "~" for it in value))
+    return value
 
 
 def number_of(value, most=4294967295):
@@ -213,13 +219,15 @@ class Reasons(Reference):
         return {"commits": {"news": news, "result": self.value(result), "writes": [[it, self.value(writes[it])] for it in sorted(writes)]}}
 
     def checkpoint(self):
-        """The lines before the first event of a history that begins from here: in format 5 if a name comes after a variable without one."""
+        """The lines before the first event of a history that begins from here: in format 5 if a name comes after a variable without one, or if a
+        block has a label."""
         names = {number: name for name, (_, number) in self.names.items()}
-        lines = [{"format": 4 if all(it < len(names) for it in names) else 5, "next": self.next, "vars": len(self.store), "waiting": len(self.waiters)}]
+        is_late = any(it >= len(names) for it in names) or any(it.label for it in self.waiters.values())
+        lines = [{"format": 5 if is_late else 4, "next": self.next, "vars": len(self.store), "waiting": len(self.waiters)}]
         for number, value in enumerate(self.store):
             lines.append({"count": self.counts[number], "init": self.value(value), "name": names.get(number), "type": self.types.kinds[number]})
         for ticket, waiter in sorted(self.waiters.items()):
-            lines.append({"block": waiter.text, "ticket": ticket})
+            lines.append({"block": waiter.text, **({"label": waiter.label} if waiter.label else {}), "ticket": ticket})
             if waiter.store_then is not None:
                 verdict, reads = waiter.on(waiter.store_then)
                 lines[-1] |= {"reads": [[it, self.value(value)] for it, value in reads.items()], "verdict": self.verdict(verdict)}
@@ -255,6 +263,12 @@ class Reasons(Reference):
         if kind == "submitted":
             block = block_of(event.get("block"), self.names)
             return "expected " + text({"block": block, "client": client, "event": kind, "ticket": self.next})
+        if kind == "labelled":
+            label = label_of(event.get("label"))
+            if waiter is None:
+                return "refused NoTicket"
+            need(self.format == 5)
+            return "expected " + text({"client": client, "event": kind, "label": label, "ticket": ticket})
         if kind != "cancelled":
             verdict_of(event.get("verdict"))
         if kind == "finished":
@@ -357,6 +371,10 @@ class Beginning:
     def block(self, found):
         line = {"block": block_of(found.get("block"), self.names), "ticket": number_of(found.get("ticket"))}
         need((self.blocks[-1]["ticket"] if self.blocks else 0) < line["ticket"] < self.head["next"])
+        label = label_of(found["label"]) if "label" in found else ""
+        if label:
+            need(self.head["format"] == 5)
+            line["label"] = label
         if "verdict" not in found:
             return line
         line |= {"verdict": verdict_of(found["verdict"]), "reads": list_of(found.get("reads"), write_of), "stale": found.get("stale")}

@@ -131,16 +131,23 @@ def cases_of(folder):
 
 
 def all_cases():
-    """The cases of tests/cases, and the examples, NAME.stm with NAME.out; those of examples/explore are explored."""
+    """The cases of tests/cases, and the examples, NAME.stm with NAME.out; those of examples/explore are explored, with the options in
+    NAME.args, one a line, if there is such a file."""
     found = cases_of("cases")
     for path in sorted((HERE.parent / "examples").glob("*.stm")):
         found.append(Case(path.name, printed=path.with_suffix(".out").read_bytes()))
         found[-1].text = path.read_bytes()
     for path in sorted((HERE.parent / "examples" / "explore").glob("*.stm")):
-        found.append(Case(f"explore {path.name}", ["explore"], printed=path.with_suffix(".out").read_bytes()))
+        found.append(Case(f"explore {path.name}", ["explore", *options_of(path)], printed=path.with_suffix(".out").read_bytes()))
         found[-1].text = path.read_bytes()
         found[-1].status = 0 if found[-1].printed.endswith(b"\nright\n") else 3
     return found
+
+
+def options_of(path):
+    """The options with which a script of examples/explore is explored."""
+    options = path.with_suffix(".args")
+    return options.read_text(ENCODING).split("\n")[:-1] if options.exists() else []
 
 
 def run(program, case):

@@ -15,6 +15,7 @@ ARGUMENTS = {  # of each command of the console
     **{"tvar": "NAME : TYPE = INIT", "declare": "NAME : TYPE = INIT", "try": "BLOCK", "looks": "BLOCK", "submit": "BLOCK"},
     **{"atomically": "BLOCK", "take": "N", "deliver": "J", "handback": "T", "eval": "", "finish": "T", "cancel": "T", "show": ""},
     **{"reads": "T", "store": "", "settle": "", "drain": "", "history": "", "ready": "", "events": "N", "why": "T", "checkpoint": ""},
+    **{"label": "T", "block": "T", "board": ""},
 }
 COMMANDS = [rf"  {word} ?{argument}( .*)?" for word, argument in ARGUMENTS.items()]
 HELP = [r"Usage: stmdesk \[COMMAND\]", r"Commands:", *(rf"  {word} +.*" for word in ("run", "storm", "explore", "check", "help"))]
@@ -25,7 +26,7 @@ HELP_OF_RUN = [r"Usage: stmdesk run .*", r" +--workers .*", r" +--levels .*", r"
 HELP_OF_RUN += [r" +--checkpoint-every .*", *COMMANDS]
 HELP_OF_STORM = [r"Usage: stmdesk storm .*", r" +--workers .*", r" +--levels .*", r" +--max-events .*"]
 HELP_OF_STORM += [rf"  {word}( .*)?" for word in ("tvar NAME", "client", "submit BLOCK", "finish K", "cancel K", "expect NAME VALUE")]
-HELP_OF_EXPLORE = [r"Usage: stmdesk explore .*", r" +--max-states .*", r" +--history .*", r" +--all .*", r" +--allow-throws .*", r" +--trace .*"]
+HELP_OF_EXPLORE = [r"Usage: stmdesk explore .*", r" +--max-states .*", r" +--history .*", r" +--all .*", r" +--allow-throws .*", r" +--trace .*", r" +--progress .*"]
 HELP_OF_EXPLORE += [rf"  {word}( .*)?" for word in ("tvar NAME", "client", "submit BLOCK", "finish K", "cancel K", "expect NAME VALUE")]
 HELP_OF_EXPLORE += [rf"  {word} .*" for word in ("always BLOCK", "never BLOCK", "assert BLOCK", "choose NAME VALUE ..", "throws K")]
 HELP_OF_CHECK = [r"Usage: stmdesk check \[OPTIONS\]", r" +--why .*", r".*histor.*"]
@@ -64,10 +65,10 @@ REFUSED = [
     *(["explore", *rest] for rest in (["--all=true"], ["--all", "--all"], ["--all", "1"], ["--", "--all"], ["--al"], ["--reduce"])),
     *(["explore", *rest] for rest in (["--allow-throws=true"], ["--allow-throws", "--allow-throws"], ["--allow-throws", "1"], ["--allow"])),
     *(["explore", *rest] for rest in (["--trace=true"], ["--trace", "--trace"], ["--trace", "1"])),
-    *([option] for option in ("--max-states", "--history", "--all", "--allow-throws", "--trace", "--why")),
+    *([option] for option in ("--max-states", "--history", "--all", "--allow-throws", "--trace", "--progress", "--why")),
     *(["check", *rest] for rest in (["--why=true"], ["--why", "--why"], ["--why", "1"], ["--", "--why"], ["--wh"])),
     *([word, "--why"] for word in ("run", "storm", "explore")),
-    *([word, option] for word in ("run", "storm", "check") for option in ("--history", "--all", "--allow-throws", "--trace")),
+    *([word, option] for word in ("run", "storm", "check") for option in ("--history", "--all", "--allow-throws", "--trace", "--progress")),
     *(["run", *rest] for rest in (["--journal"], ["--journal="], ["--journal", ""], ["--journal", "a", "--journal", "a"], ["--journal", b"\xff"])),
     *(["run", *rest] for rest in (["--sync"], ["--sync", "full"], ["--sync=none"], ["--journal", "a", "--sync"], ["--", "--journal", "a"])),
     *(["run", "--journal", "a", "--sync", mode] for mode in ("", "Full", "full ", "never", "0")),
@@ -103,6 +104,8 @@ EXPLORE_ACCEPTED = [  # behind `explore`
     ["--allow-throws", "--all", "--max-states", "1"],
     ["--trace"],
     ["--trace", "--allow-throws", "--max-states", "1"],
+    ["--progress"],
+    ["--progress", "--all", "--max-states", "1"],
 ]
 EMPTY = b'{"format":3,"vars":0}\n'
 SCRIPT = b"tvar x : Int = 1\nclient\nexpect x 1\n"  # of a storm without events, so that it takes any number of them
