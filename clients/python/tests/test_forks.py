@@ -28,8 +28,8 @@ class Forks(InThreads):
     # What the methods of a desk are called with; nothing if they aren't here.
     GIVEN = {
         "tvar": ("y : Int = 1",), "declare": ("y : Int = 1",), "try_": ("retry",), "looks": ("retry",), "submit": ("retry",), "take": (1,),
-        "deliver": (1,), "handback": (1,), "finish": (1,), "cancel": (1,), "reads": (1,), "why": (1,), "value": ("x",),
-        "variable": ("x : Int = 1",), "atomically": ("retry",),
+        "deliver": (1,), "handback": (1,), "finish": (1,), "cancel": (1,), "label": (1, "a"), "reads": (1,), "block": (1,), "why": (1,),
+        "value": ("x",), "variable": ("x : Int = 1",), "atomically": ("retry",),
     }  # fmt: skip
 
     def fork(self):
