@@ -24,7 +24,7 @@ from stmdesk import Value as StmValue
 HEADS = ("ticket", "label", "status", "for", "waits for")
 
 
-def told(value: StmValue) -> str:
+def value_text(value: StmValue) -> str:
     """A value as a block would have it."""
     return "()" if value is None else str(value)
 
@@ -38,9 +38,9 @@ def reason(why: Reason) -> str:
     if isinstance(why, StaleBefore):
         return "an evaluation, since before the last checkpoint"
     if isinstance(why, StaleBy):
-        changes = ", ".join(f"{name} from {told(it.read)} to {told(it.left)}" for name, it in why.changes.items())
+        changes = ", ".join(f"{name} from {value_text(it.read)} to {value_text(it.left)}" for name, it in why.changes.items())
         return f"an evaluation, since ticket {why.finish} changed {changes}"
-    reads = " or ".join(f"{name}, which is {told(value)}" for name, value in why.reads.items())
+    reads = " or ".join(f"{name}, which is {value_text(value)}" for name, value in why.reads.items())
     return f"a change of {reads}" if reads else "nothing that could change: it read no variable"
 
 
