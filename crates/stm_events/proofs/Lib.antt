@@ -12,6 +12,7 @@ pub mod Headline
 pub mod HeadlineFrom
 pub mod Kept
 pub mod Labelling
+pub mod LabelTables
 pub mod NamedVariables
 pub mod Observed
 pub mod Possible

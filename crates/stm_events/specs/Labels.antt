@@ -41,10 +41,13 @@ with_label t (b ∷ bs) ls = ls ++ (t, b ∷ bs) ∷ []
 abbrev pub labelled : ℕ → List ℕ → Labels → Labels
 labelled t label ls = with_label t label (without_label t ls)
 
--- each of them is a label
+-- each ticket has a label by these, or none
 abbrev pub AreLabels : Labels → Type 0
-AreLabels [] = Unit {0}
-AreLabels (l ∷ ls) = (is_label l.1 ≡ true) × AreLabels ls
+AreLabels ls = (t : ℕ) → is_label (label_of t ls) ≡ true
+
+-- these have the same label of each ticket, in whatever order
+abbrev pub AreSameLabels : Labels → Labels → Type 0
+AreSameLabels ls ls' = (t : ℕ) → label_of t ls ≡ label_of t ls'
 
 -- the labels after an event
 abbrev pub labels_after : Labels → What → Labels

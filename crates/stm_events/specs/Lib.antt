@@ -6,6 +6,7 @@ pub mod Delivered
 pub mod DrainCounts
 pub mod Headline
 pub mod HeadlineFrom
+pub mod KeptCauses
 pub mod Labelling
 pub mod Labels
 pub mod Laws

@@ -1,18 +1,19 @@
 //! The labels of waiting blocks, as they are kept.
 
-ghost use Rattle.std.specs.Prelude.{◌≡◌, ◌≤◌, [], IfOk, OnOk, OnErr, unwrap_or, vec_len, vec_capacity};
+ghost use Rattle.std.specs.Prelude.{◌≡◌, [], IfOk, OnOk, OnErr, option_map, unwrap_or};
 ghost use Rattle.std.specs.Option.{option_copied};
-ghost use Rattle.stm_events.specs.Labels.{label_of, without_label, labelled};
+ghost use Rattle.stm_events.specs.Labels.{AreSameLabels, label_of, without_label, labelled};
 
 use crate::shared_name::SharedName;
 use std::alloc::Global;
+use std::collections::HashMap;
 use std::marker::Model;
 use stm_terms::NoMemory;
 
-/// Of some waiting blocks the label, by their tickets. Contracts see the list. Each call goes over the labels that there are.
+/// Of some waiting blocks the label, by their tickets. Contracts see a list, whose order says nothing. Each call takes constant time.
 #[derive(Drop)]
 pub struct LabelTable {
-    labels: Vec<(u32, SharedName)>,
+    labels: HashMap<u32, SharedName>,
 }
 
 impl Model for LabelTable {
@@ -23,28 +24,7 @@ impl Model for LabelTable {
 
     ghost coded = { Prim.hlevel (codes) };
 
-    ghost view = { λ t. t.labels.items };
-}
-
-/// The label of a ticket among these, if it has one.
-fn find_label(labels: &[(u32, SharedName)], ticket: u32) -> Option<&SharedName>
-    ensures { unwrap_or (option_copied result) [] ≡ label_of ticket labels.now }
-{
-    for label in labels {
-        if ticket == label.0 {
-            return Some(&label.1);
-        }
-    }
-    None
-}
-
-/// The label of a ticket goes.
-fn drop_label(labels: &mut Vec<(u32, SharedName)>, ticket: u32)
-    ensures gone { labels.new.items ≡ without_label ticket labels.old.items }
-    ensures bound { vec_len labels.new ≤ vec_len labels.old }
-    ensures capacity { vec_capacity labels.new ≡ vec_capacity labels.old }
-{
-    labels.retain(|label| ticket != label.0);
+    ghost view = { λ t. t.labels.entries };
 }
 
 impl LabelTable {
@@ -53,15 +33,22 @@ impl LabelTable {
         ensures { result ≡ [] }
     {
         LabelTable {
-            labels: Vec::new(alloc),
+            labels: HashMap::new(alloc),
         }
+    }
+
+    /// The label of a ticket, if it has one.
+    fn find(&self, ticket: u32) -> Option<&SharedName>
+        ensures { unwrap_or (option_copied result) [] ≡ label_of ticket self.now }
+    {
+        self.labels.get(&ticket)
     }
 
     /// The label of a ticket; the empty text if it has none.
     pub fn label_of(&self, ticket: u32) -> &str
         ensures { result.now ≡ label_of ticket self.now }
     {
-        match find_label(&self.labels, ticket) {
+        match self.find(ticket) {
             Some(label) => label.as_str(),
             None => "",
         }
@@ -71,7 +58,7 @@ impl LabelTable {
     pub fn shared(&self, ticket: u32) -> Result<SharedName, NoMemory>
         ensures { IfOk result (λ n. n ≡ label_of ticket self.now) }
     {
-        match find_label(&self.labels, ticket) {
+        match self.find(ticket) {
             Some(label) => label.share(),
             None => Ok(SharedName::none()),
         }
@@ -79,23 +66,23 @@ impl LabelTable {
 
     /// The label of a ticket goes, if it has one.
     pub fn remove(&mut self, ticket: u32)
-        ensures { self.new ≡ without_label ticket self.old }
+        ensures { AreSameLabels self.new (without_label ticket self.old) }
     {
-        drop_label(&mut self.labels, ticket);
+        self.labels.remove(&ticket);
     }
 
     /// The ticket gets a label, in place of the one that it had; an empty one takes it away.
     pub fn set(&mut self, ticket: u32, label: SharedName) -> Result<(), NoMemory>
-        ensures ok { OnOk result (self.new ≡ labelled ticket label self.old) }
+        ensures ok { OnOk result (AreSameLabels self.new (labelled ticket label self.old)) }
         ensures err { OnErr result (self.new ≡ self.old) }
     {
         if label.as_str().is_empty() {
             self.remove(ticket);
             return Ok(());
         }
-        self.labels.reserve(1)?;
-        drop_label(&mut self.labels, ticket);
-        self.labels.push_reserved((ticket, label));
+        let Ok(_before) = self.labels.insert(ticket, label) else {
+            return Err(NoMemory);
+        };
         Ok(())
     }
 }

@@ -5,12 +5,13 @@
 //! `specs/Rounds` the same in rounds, `specs/Ready` which blocks could finish now, `specs/Refusals` why each call is refused,
 //! `specs/Headline` which blocks are marked stale and what the verdicts of the others are worth, and `specs/Laws` what else
 //! holds after every legal history (`laws`).
-//! `specs/Labels` says which labels waiting blocks have. `same` returns whether two events are equal.
+//! `specs/Labels` says which labels waiting blocks have, `specs/KeptCauses` how a checkpoint keeps why blocks are stale. `same` returns whether two events are equal.
 #![tactic(auto)]
 
 pub mod delivery;
 pub mod errors;
 pub mod event;
+pub mod kept_cause;
 pub mod label;
 pub mod label_table;
 pub mod laws;
@@ -26,6 +27,7 @@ pub use errors::{
     CancelError, DeliverError, FinishError, LabelError, LateDeclareError, SubmitError,
 };
 pub use event::{Event, What};
+pub use kept_cause::{CauseTable, KeptCause};
 pub use label::{LONGEST_LABEL, is_label};
 pub use label_table::LabelTable;
 pub use shared_name::SharedName;

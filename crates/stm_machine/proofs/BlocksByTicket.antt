@@ -76,13 +76,13 @@ kept_found : (t : ℕ) (bs : List CheckpointBlock) → kept_at t (map entry_of b
 kept_found t [] = refl
 kept_found t (b ∷ bs) = kept_step (nat_eq t b.ticket) b (kept_at t (map entry_of bs)) (find_block t bs) (kept_found t bs)
 
-right_step : (store : List Cell) (c : Bool) (b x : CheckpointBlock) (p : Option CheckpointBlock) → IsCheckpointBlock store b → (p ≡ Some x → IsCheckpointBlock store x) → cond c (Some b) p ≡ Some x → IsCheckpointBlock store x
-right_step store true b x p r more e = let q : b ≡ x = cc in subst (IsCheckpointBlock store) q r
-right_step store false b x p r more e = more e
+right_step : (store : List Cell) (n : ℕ) (c : Bool) (b x : CheckpointBlock) (p : Option CheckpointBlock) → IsCheckpointBlock store n b → (p ≡ Some x → IsCheckpointBlock store n x) → cond c (Some b) p ≡ Some x → IsCheckpointBlock store n x
+right_step store n true b x p r more e = let q : b ≡ x = cc in subst (IsCheckpointBlock store n) q r
+right_step store n false b x p r more e = more e
 
-right_found : (store : List Cell) (n k t : ℕ) (bs : List CheckpointBlock) (x : CheckpointBlock) → AreCheckpointBlocks store n k bs → find_block t bs ≡ Some x → IsCheckpointBlock store x
+right_found : (store : List Cell) (n k t : ℕ) (bs : List CheckpointBlock) (x : CheckpointBlock) → AreCheckpointBlocks store n k bs → find_block t bs ≡ Some x → IsCheckpointBlock store n x
 right_found store n k t [] x a e = cc
-right_found store n k t (b ∷ bs) x a e = right_step store (nat_eq t b.ticket) b x (find_block t bs) a.2 (right_found store n b.ticket t bs x a.3) e
+right_found store n k t (b ∷ bs) x a e = right_step store n (nat_eq t b.ticket) b x (find_block t bs) a.2 (right_found store n b.ticket t bs x a.3) e
 
 none_above : (f : CheckpointBlock → Bool) (t k : ℕ) (bs : List CheckpointBlock) → t ≤ k → TicketsAscend k bs → has_block f t bs ≡ false
 none_above f t k [] l r = refl
@@ -115,8 +115,8 @@ due_by : (store : List Cell) (t : ℕ) (block : Block) (stale : Bool) (held : Op
 due_by store t block stale None d = refl
 due_by store t block stale (Some h) d = ap (λ (b : Bool). not (not b)) (sym (is_stale_held store block stale h d))
 
-due_one : (store : List Cell) (b : CheckpointBlock) → IsCheckpointBlock store b → is_due_block b ≡ not (is_current (waiter_of store b))
-due_one store b r = due_by store b.ticket b.waiting.block b.stale b.waiting.held r.delivery
+due_one : (store : List Cell) (n : ℕ) (b : CheckpointBlock) → IsCheckpointBlock store n b → is_due_block b ≡ not (is_current (waiter_of store b))
+due_one store n b r = due_by store b.ticket b.waiting.block b.stale b.waiting.held r.delivery
 
 watches_by : (store : List Cell) (v t : ℕ) (block : Block) (stale : Bool) (held : Option Held) → IsRightDelivery store block stale held
     → (not (not (is_some held && not stale)) && is_read (held_reads held) v) ≡ watches_of (Some (record { ticket = t; block = block; since = since_held store stale held })) v
@@ -126,17 +126,17 @@ watches_by store v t block stale (Some h) d =
     ∙ ap (λ (b : Bool). b && is_read h.reads v) (not_twice (not (is_stale_since block (record { store_then = store_with h.reads store; woken = cond stale (map (λ r. r.0) h.reads) [] }))))
     ∙ ap (λ (rs : List (ℕ × Value)). not (is_stale_since block (record { store_then = store_with h.reads store; woken = cond stale (map (λ r. r.0) h.reads) [] })) && is_read rs v) (sym d.1.reads_are)
 
-watches_one : (store : List Cell) (v : ℕ) (b : CheckpointBlock) → IsCheckpointBlock store b → watches_variable v b ≡ watches_of (Some (waiter_of store b)) v
-watches_one store v b r = watches_by store v b.ticket b.waiting.block b.stale b.waiting.held r.delivery
+watches_one : (store : List Cell) (n v : ℕ) (b : CheckpointBlock) → IsCheckpointBlock store n b → watches_variable v b ≡ watches_of (Some (waiter_of store b)) v
+watches_one store n v b r = watches_by store v b.ticket b.waiting.block b.stale b.waiting.held r.delivery
 
-due_found : (store : List Cell) (o : Option CheckpointBlock) → ((b : CheckpointBlock) → o ≡ Some b → IsCheckpointBlock store b) → holds_of is_due_block o ≡ due_of (option_map (waiter_of store) o)
-due_found store None r = refl
-due_found store (Some b) r = due_one store b (r b refl)
+due_found : (store : List Cell) (n : ℕ) (o : Option CheckpointBlock) → ((b : CheckpointBlock) → o ≡ Some b → IsCheckpointBlock store n b) → holds_of is_due_block o ≡ due_of (option_map (waiter_of store) o)
+due_found store n None r = refl
+due_found store n (Some b) r = due_one store n b (r b refl)
 
-watches_found : (store : List Cell) (v : ℕ) (o : Option CheckpointBlock) → ((b : CheckpointBlock) → o ≡ Some b → IsCheckpointBlock store b)
+watches_found : (store : List Cell) (n v : ℕ) (o : Option CheckpointBlock) → ((b : CheckpointBlock) → o ≡ Some b → IsCheckpointBlock store n b)
     → holds_of (watches_variable v) o ≡ watches_of (option_map (waiter_of store) o) v
-watches_found store v None r = refl
-watches_found store v (Some b) r = watches_one store v b (r b refl)
+watches_found store n v None r = refl
+watches_found store n v (Some b) r = watches_one store n v b (r b refl)
 
 swap : (a b : Bool) → (a && b) ≡ (b && a)
 swap true true = refl
@@ -151,11 +151,11 @@ ready_found (Some b) = swap (not (is_due_block b)) (held_ends b.waiting.held)
 -- ---- all that a machine keeps
 pub due_of_blocks : (store : List Cell) (n t : ℕ) (bs : List CheckpointBlock) → AreCheckpointBlocks store n 0 bs → has_block is_due_block t bs ≡ due_of (find_waiter t (map (waiter_of store) bs))
 due_of_blocks store n t bs a =
-    has_found is_due_block t 0 bs (tickets_rise store n 0 bs a) ∙ due_found store (find_block t bs) (λ b. right_found store n 0 t bs b a) ∙ ap due_of (sym (waiter_found store t bs))
+    has_found is_due_block t 0 bs (tickets_rise store n 0 bs a) ∙ due_found store n (find_block t bs) (λ b. right_found store n 0 t bs b a) ∙ ap due_of (sym (waiter_found store t bs))
 
 pub watches_of_blocks : (store : List Cell) (n v t : ℕ) (bs : List CheckpointBlock) → AreCheckpointBlocks store n 0 bs → has_block (watches_variable v) t bs ≡ watches_of (find_waiter t (map (waiter_of store) bs)) v
 watches_of_blocks store n v t bs a =
-    has_found (watches_variable v) t 0 bs (tickets_rise store n 0 bs a) ∙ watches_found store v (find_block t bs) (λ b. right_found store n 0 t bs b a)
+    has_found (watches_variable v) t 0 bs (tickets_rise store n 0 bs a) ∙ watches_found store n v (find_block t bs) (λ b. right_found store n 0 t bs b a)
     ∙ ap (λ (o : Option Waiter). watches_of o v) (sym (waiter_found store t bs))
 
 held_one : (store : List Cell) (block : Block) (stale : Bool) (held : Option Held) → IsRightDelivery store block stale held → IsHeld block held (since_held store stale held)

@@ -1,32 +1,25 @@
--- Labels of the blocks of a checkpoint.
-use Rattle.std.proofs.Common.{◌≡◌, ℕ, Bool, true, false, ◌||◌, cond, List, [], ◌∷◌, map, refl, sym, ap, ◌∙◌, arith, eqb-true}
+-- Labels and causes of the blocks of a checkpoint.
+use Rattle.std.proofs.Common.{◌≡◌, ℕ, Bool, true, false, ◌||◌, cond, List, [], ◌∷◌, map, Option, refl, sym, ap, ◌∙◌, arith, eqb-true}
 use Rattle.std.specs.Prelude.{nat_eq}
 use Rattle.std.specs.List.{list_any}
 use Rattle.std.proofs.lemmas.List.{length-map}
 use Rattle.stm_store.specs.declared.cell.Cell.{Cell}
+use Rattle.stm_events.specs.declared.kept_cause.KeptCause.{KeptCause}
 use Rattle.stm_events.specs.Labels.{Labels, AreLabels, is_label, label_of}
 use Rattle.stm_events.specs.SlowDesk.{Waiter}
 use Rattle.stm_machine.specs.declared.checkpoint.CheckpointBlock.{CheckpointBlock}
-use Rattle.stm_machine.specs.Checkpoints.{CheckpointView, waiter_of, checkpoint_state, AreCheckpointBlocks, labelled_block, with_labels, before_labels, labels_in, LabelsLeaveCheckpoints}
+use Rattle.stm_machine.specs.Checkpoints.{CheckpointView, waiter_of, checkpoint_state, AreCheckpointBlocks, labelled_block, with_labels, before_labels, labels_in, LabelsLeaveCheckpoints, caused_block, with_causes, MayHaveCauses, CausesLeaveCheckpoints}
 
 pub no_label_is : is_label [] ≡ true
 unfolding is_label
 no_label_is = refl
-
-label_by : (b : Bool) (label more : List ℕ) → is_label label ≡ true → is_label more ≡ true → is_label (cond b label more) ≡ true
-label_by true label more h k = h
-label_by false label more h k = k
-
-pub label_is : (t : ℕ) (ls : Labels) → AreLabels ls → is_label (label_of t ls) ≡ true
-label_is t [] a = no_label_is
-label_is t (l ∷ ls) a = label_by (nat_eq t l.0) l.1 (label_of t ls) a.0 (label_is t ls a.1)
 
 are_labelled : (labels : Labels) (store : List Cell) (n k : ℕ) (bs : List CheckpointBlock) → AreLabels labels → AreCheckpointBlocks store n k bs → AreCheckpointBlocks store n k (map (labelled_block labels) bs)
 are_labelled labels store n k [] l a = tt
 are_labelled labels store n k (b ∷ bs) l a = (
   a.0,
   a.1,
-  record { covered = a.2.covered; typed = a.2.typed; delivery = a.2.delivery; label = label_is b.ticket labels l },
+  record { covered = a.2.covered; typed = a.2.typed; delivery = a.2.delivery; cause = a.2.cause; label = l b.ticket },
   are_labelled labels store n b.ticket bs l a.3,
 )
 
@@ -48,6 +41,36 @@ labels_leave_checkpoints labels c l k = (
     blocks = are_labelled labels c.store c.next 0 c.blocks l k.blocks;
   },
   same_state labels c,
+)
+
+-- ---- causes
+are_caused : (causes : ℕ → Option KeptCause) (store : List Cell) (n k : ℕ) (bs : List CheckpointBlock) → MayHaveCauses store n causes bs → AreCheckpointBlocks store n k bs → AreCheckpointBlocks store n k (map (caused_block causes) bs)
+are_caused causes store n k [] m a = tt
+are_caused causes store n k (b ∷ bs) m a = (
+  a.0,
+  a.1,
+  record { covered = a.2.covered; typed = a.2.typed; delivery = a.2.delivery; cause = m.0; label = a.2.label },
+  are_caused causes store n b.ticket bs m.1 a.3,
+)
+
+caused_waiters : (causes : ℕ → Option KeptCause) (store : List Cell) (bs : List CheckpointBlock) → map (waiter_of store) (map (caused_block causes) bs) ≡ map (waiter_of store) bs
+caused_waiters causes store [] = refl
+caused_waiters causes store (b ∷ bs) = ap (λ (ws : List Waiter). waiter_of store b ∷ ws) (caused_waiters causes store bs)
+
+pub caused_state : (causes : ℕ → Option KeptCause) (c : CheckpointView) → checkpoint_state (with_causes causes c) ≡ checkpoint_state c
+caused_state causes c = let same = caused_waiters causes c.store c.blocks in rw same refl
+
+pub causes_leave_checkpoints : CausesLeaveCheckpoints
+causes_leave_checkpoints causes c m k = (
+  record {
+    begun = k.begun;
+    tickets = k.tickets;
+    store = k.store;
+    named = k.named;
+    few = let l = length-map c.blocks (caused_block causes) in let f = k.few in omega arith;
+    blocks = are_caused causes c.store c.next 0 c.blocks m k.blocks;
+  },
+  caused_state causes c,
 )
 
 -- ---- the labels with which a history begins

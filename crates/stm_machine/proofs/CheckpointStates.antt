@@ -204,7 +204,7 @@ are_blocks store n k [] rising covered unwoken had typed were = tt
 are_blocks store n k (w ∷ ws) rising covered unwoken had typed were = (
   rising.0,
   rising.1,
-  record { covered = covered.0; typed = typed.0; delivery = right_since store w.block w.since had.0 were.0 unwoken.0; label = no_label_is },
+  record { covered = covered.0; typed = typed.0; delivery = right_since store w.block w.since had.0 were.0 unwoken.0; cause = tt; label = no_label_is },
   are_blocks store n w.ticket ws rising.2 covered.1 unwoken.1 had.1 typed.1 were.1,
 )
 

@@ -42,8 +42,8 @@ held_not_new b (Some h) None i = absurd i
 held_not_new b (Some h) (Some s) i = refl
 
 block_equal : (t u : ℕ) (b c : Block) (h g : Option Held) (s r : Bool) → t ≡ u → b ≡ c → h ≡ g → s ≡ r
-    → (let x : CheckpointBlock = record { ticket = t; waiting = record { block = b; held = h }; stale = s; label = [] } in x)
-    ≡ (let y : CheckpointBlock = record { ticket = u; waiting = record { block = c; held = g }; stale = r; label = [] } in y)
+    → (let x : CheckpointBlock = record { ticket = t; waiting = record { block = b; held = h }; stale = s; cause = None; label = [] } in x)
+    ≡ (let y : CheckpointBlock = record { ticket = u; waiting = record { block = c; held = g }; stale = r; cause = None; label = [] } in y)
 block_equal t u b c h g s r e f p q = rw (e, f, p, q) refl
 
 one_block : (pending : List Entry) (e : ℕ × Waiting) (w : Waiter) → IsDue e w → has_ticket e.0 pending ≡ not (is_current w) → block_of pending e ≡ block_of_waiter w

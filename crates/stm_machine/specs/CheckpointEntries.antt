@@ -1,5 +1,5 @@
 -- How a machine keeps the blocks of a checkpoint, ticket by ticket, and what a checkpoint has of the blocks that a machine keeps.
-use Rattle.std.specs.Prelude.{ℕ, ◌<◌, Bool, not, ◌&&◌, nat_eq, is_some, List, [], ◌∷◌, length}
+use Rattle.std.specs.Prelude.{ℕ, ◌<◌, Bool, not, ◌&&◌, nat_eq, is_some, List, [], ◌∷◌, length, None}
 use Rattle.std.specs.List.{list_any}
 use Rattle.stm_queue.specs.Queue.{Entry, has_ticket}
 use Rattle.stm_events.specs.SlowDesk.{max_waiting}
@@ -57,6 +57,6 @@ abbrev pub EntriesRise : ℕ → List (ℕ × Waiting) → Type 0
 EntriesRise k [] = Unit {0}
 EntriesRise k (e ∷ es) = (k < e.0) × EntriesRise e.0 es
 
--- what a machine keeps under a ticket, with these tickets queued or out; it keeps no labels
+-- what a machine keeps under a ticket, with these tickets queued or out; it keeps no causes and no labels
 abbrev pub block_of : List Entry → ℕ × Waiting → CheckpointBlock
-block_of pending e = record { ticket = e.0; waiting = e.1; stale = is_some e.1.held && has_ticket e.0 pending; label = [] }
+block_of pending e = record { ticket = e.0; waiting = e.1; stale = is_some e.1.held && has_ticket e.0 pending; cause = None; label = [] }

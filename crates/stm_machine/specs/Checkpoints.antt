@@ -1,11 +1,13 @@
 -- A checkpoint: a state that a history may begin from, as it can be kept and written. Of each waiting block it has what its last
--- delivery brought, whether it is stale, and its label.
+-- delivery brought, whether it is stale, why it is if that is known, and its label.
 use Rattle.std.specs.Prelude.{◌≡◌, ◌≢◌, ℕ, ◌<◌, ◌≤◌, Bool, true, false, not, ◌&&◌, if◌then◌else◌, List, [], ◌∷◌, ◌++◌, map, length, Option, Some, None, option_map}
 use Rattle.stm_terms.specs.declared.kinds.Ty.{Ty}
 use Rattle.stm_terms.specs.declared.values.Value.{Value}
 use Rattle.stm_terms.specs.declared.values.Value.TheVariants as value
 use Rattle.stm_terms.specs.declared.verdicts.Verdict.TheVariants.{Commits}
+use Rattle.stm_terms.specs.Changes.{find}
 use Rattle.stm_terms.specs.ReadSet.{reads_of}
+use Rattle.stm_terms.specs.Value.{same_value}
 use Rattle.stm_store.specs.declared.cell.Cell.{Cell}
 use Rattle.stm_store.specs.Cells.{plains, Covers, Fits, IsStore, applied}
 use Rattle.stm_store.specs.Naming.{Named, named_uses}
@@ -13,6 +15,7 @@ use Rattle.stm_store.specs.Tables.{Declared, opened}
 use Rattle.stm_check.specs.TypedBlock.{Block}
 use Rattle.stm_eval.specs.Messages.{Holds}
 use Rattle.stm_events.specs.Delivered.{Delivered}
+use Rattle.stm_events.specs.declared.kept_cause.KeptCause.{KeptCause}
 use Rattle.stm_events.specs.Labels.{Labels, AreLabels, is_label, label_of}
 use Rattle.stm_events.specs.declared.staleness.StalenessRule.{StalenessRule}
 use Rattle.stm_events.specs.declared.staleness.StalenessRule.TheVariants.{Changed}
@@ -39,13 +42,15 @@ abbrev pub is_stale_delivery : Option Delivered → Bool
 is_stale_delivery None = false
 is_stale_delivery (Some d) = d.stale
 
--- the block that waits under a ticket, with its last delivery, if there was one, and its label, which is empty if it has none
-abbrev pub checkpoint_block : ℕ → Block → Option Delivered → List ℕ → CheckpointBlock
-checkpoint_block t block delivery label =
+-- the block that waits under a ticket, with its last delivery, if there was one, why it is stale, if that is known, and its label, which
+-- is empty if it has none
+abbrev pub checkpoint_block : ℕ → Block → Option Delivered → Option KeptCause → List ℕ → CheckpointBlock
+checkpoint_block t block delivery cause label =
     record {
       ticket = t;
       waiting = record { block = block; held = option_map held_of delivery };
       stale = is_stale_delivery delivery;
+      cause = cause;
       label = label;
     }
 
@@ -81,18 +86,44 @@ IsRightDelivery store block stale (Some h) =
     × (stale ≡ false → differing (under store) h.reads ≡ None)
     × (stale ≡ true → h.reads ≢ [])
 
--- a waiting block of a checkpoint with this store
-pub record IsCheckpointBlock (store : List Cell) (b : CheckpointBlock) : Type 0 where
+-- a variable was read, with another value than this one
+abbrev pub differs_from : Option Value → Value → Bool
+differs_from None v = false
+differs_from (Some read) v = not (same_value read v)
+
+-- each of these variables was read, with another value than it has here
+abbrev pub all_differ : List (ℕ × Value) → List (ℕ × Value) → Bool
+all_differ reads [] = true
+all_differ reads (l ∷ ls) = differs_from (find l.0 reads) l.1 && all_differ reads ls
+
+-- why a block of these reads may be stale: a finish, whose ticket is below the next one, left some variables that the block had read
+-- with other values, which they may have
+pub record IsKeptCause (store : List Cell) (n : ℕ) (reads : List (ℕ × Value)) (c : KeptCause) : Type 0 where
+  pub begun : 0 < c.finish
+  pub finished : c.finish < n
+  pub some : c.left ≢ []
+  pub fits : Fits (plains store) (Commits c.left [] value.Unit)
+  pub changed : all_differ reads c.left ≡ true
+
+-- a block may have this cause, if it has one: it is stale
+abbrev pub MayHaveCause : List Cell → ℕ → Bool → Option Held → Option KeptCause → Type 0
+MayHaveCause store n stale held None = Unit {0}
+MayHaveCause store n stale None (Some c) = ⊥
+MayHaveCause store n stale (Some h) (Some c) = (stale ≡ true) × IsKeptCause store n h.reads c
+
+-- a waiting block of a checkpoint with this store and next ticket
+pub record IsCheckpointBlock (store : List Cell) (n : ℕ) (b : CheckpointBlock) : Type 0 where
   pub covered : Covers (plains store) b.waiting.block.uses
   pub typed : IsWellTyped b.waiting.block
   pub delivery : IsRightDelivery store b.waiting.block b.stale b.waiting.held
+  pub cause : MayHaveCause store n b.stale b.waiting.held b.cause
   pub label : is_label b.label ≡ true
 
 -- these are waiting blocks of one, with tickets above k, each above the one before it, all below n
 abbrev pub AreCheckpointBlocks : List Cell → ℕ → ℕ → List CheckpointBlock → Type 0
 AreCheckpointBlocks store n k [] = Unit {0}
 AreCheckpointBlocks store n k (b ∷ bs) =
-    (k < b.ticket) × (b.ticket < n) × IsCheckpointBlock store b × AreCheckpointBlocks store n b.ticket bs
+    (k < b.ticket) × (b.ticket < n) × IsCheckpointBlock store n b × AreCheckpointBlocks store n b.ticket bs
 
 -- the greatest next ticket of a checkpoint: a history after it has tickets for all of its events
 abbrev pub max_next : ℕ
@@ -123,13 +154,14 @@ held_since block None = None
 held_since block (Some s) =
     option_map (λ v. record { reads = reads_of (under s.store_then) block.tree; verdict = v }) (verdict_on s.store_then block)
 
--- a waiting block: it is stale if it is neither new nor current; a state has no labels
+-- a waiting block: it is stale if it is neither new nor current; a state knows no causes and has no labels
 abbrev pub block_of_waiter : Waiter → CheckpointBlock
 block_of_waiter w =
     record {
       ticket = w.ticket;
       waiting = record { block = w.block; held = held_since w.block w.since };
       stale = not (is_new w) && not (is_current w);
+      cause = None;
       label = [];
     }
 
@@ -158,6 +190,27 @@ LabelsLeaveCheckpoints =
     (labels : Labels) (c : CheckpointView) → AreLabels labels → IsCheckpoint c
     → IsCheckpoint (with_labels labels c) × (checkpoint_state (with_labels labels c) ≡ checkpoint_state c)
 
+-- ---- the causes
+-- a block with this cause
+abbrev pub caused_block : (ℕ → Option KeptCause) → CheckpointBlock → CheckpointBlock
+caused_block causes b = record b { cause = causes b.ticket }
+
+-- a checkpoint whose blocks have these causes
+abbrev pub with_causes : (ℕ → Option KeptCause) → CheckpointView → CheckpointView
+with_causes causes c = record c { blocks = map (caused_block causes) c.blocks }
+
+-- each of these blocks of a checkpoint may have its cause
+abbrev pub MayHaveCauses : List Cell → ℕ → (ℕ → Option KeptCause) → List CheckpointBlock → Type 0
+MayHaveCauses store n causes [] = Unit {0}
+MayHaveCauses store n causes (b ∷ bs) = MayHaveCause store n b.stale b.waiting.held (causes b.ticket) × MayHaveCauses store n causes bs
+
+-- a checkpoint whose blocks get causes that they may have stays one, of the same state
+abbrev pub CausesLeaveCheckpoints : Type 0
+CausesLeaveCheckpoints =
+    (causes : ℕ → Option KeptCause) (c : CheckpointView) → MayHaveCauses c.store c.next causes c.blocks → IsCheckpoint c
+    → IsCheckpoint (with_causes causes c) × (checkpoint_state (with_causes causes c) ≡ checkpoint_state c)
+
+-- ---- the labels with which a history begins
 -- the label of a ticket before others, unless it is empty
 abbrev pub before_labels : ℕ → List ℕ → Labels → Labels
 before_labels t [] ls = ls

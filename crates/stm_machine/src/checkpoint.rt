@@ -1,30 +1,34 @@
 //! Checkpoints: states that a history may begin from.
 
-ghost use Rattle.std.specs.Prelude.{◌≡◌, ◌≢◌, ℕ, ◌<◌, ◌≤◌, ◌++◌, ◌∷◌, [], false, true, map, IfOk, OnOk, OnErr, IsErrOf, IsTrue, ◌↔◌};
+ghost use Rattle.std.specs.Prelude.{◌≡◌, ◌≢◌, ℕ, ◌<◌, ◌≤◌, ◌++◌, ◌∷◌, [], false, true, map, option_map, IfOk, OnOk, OnErr, IsErrOf, IsTrue, ◌↔◌};
+ghost use Rattle.stm_terms.specs.Changes.{find};
 ghost use Rattle.stm_store.specs.Cells.{plains, Covers, StoreIsTyped};
 ghost use Rattle.stm_store.specs.Naming.{named_uses};
+ghost use Rattle.stm_events.specs.KeptCauses.{kept_cause_of};
 ghost use Rattle.stm_events.specs.Labels.{AreLabels};
 ghost use Rattle.stm_events.specs.SlowDesk.{Slow};
 ghost use Rattle.stm_events.specs.States.{IsTypedState};
 ghost use Rattle.stm_events.specs.declared.staleness.StalenessRule.{StalenessRule as AnyRule};
-ghost use Rattle.stm_machine.specs.Checkpoints.{IsCheckpoint, CheckpointsArePossible, CheckpointsAreUnseen, LabelsLeaveCheckpoints, checkpoint_of, labelled_block, with_labels, MayAdd, checkpoint_block, checkpoint_state, max_next};
+ghost use Rattle.stm_machine.specs.Checkpoints.{IsCheckpoint, CheckpointsArePossible, CheckpointsAreUnseen, LabelsLeaveCheckpoints, CausesLeaveCheckpoints, checkpoint_of, labelled_block, with_labels, caused_block, with_causes, differs_from, all_differ, IsKeptCause, MayHaveCause, MayHaveCauses, MayAdd, checkpoint_block, held_of, is_stale_delivery, checkpoint_state, max_next};
 ghost use Rattle.stm_machine.specs.CheckpointEntries.{HasPlace, last_ticket};
 ghost use Rattle.stm_machine.specs.Machine.{IsAt};
 ghost use Rattle.stm_machine.specs.SettleChoices.{some_out};
 
 use crate::machine::Machine;
 use crate::restored::{due_tickets, entries, read_variables, ready_tickets, waiting_blocks};
-use crate::right_delivery::last_delivery;
+use crate::right_delivery::{last_delivery, writes_of};
 use std::alloc::Global;
 use std::marker::Model;
 use stm_check::SharedBlock;
 use stm_events::delivery::Delivery;
+use stm_events::kept_cause::{CauseTable, KeptCause};
 use stm_events::label::is_label;
 use stm_events::label_table::LabelTable;
 use stm_events::shared_name::SharedName;
 use stm_events::staleness::StalenessRule;
 use stm_store::{Names, Store};
 use stm_terms::NoMemory;
+use stm_terms::values::Value;
 use stm_waiting::Waiting;
 use thiserror::Error;
 
@@ -36,6 +40,8 @@ pub struct CheckpointBlock {
     pub waiting: Waiting,
     /// Whether the block is stale. A new one isn't.
     pub stale: bool,
+    /// Why it is stale, if that is known.
+    pub cause: Option<KeptCause>,
     /// Its label; the empty text if it has none.
     pub label: SharedName,
 }
@@ -124,13 +130,49 @@ fn labelled(block: CheckpointBlock, labels: &LabelTable) -> Result<CheckpointBlo
         ticket,
         waiting,
         stale,
+        cause,
         label: _,
     } = block;
     Ok(CheckpointBlock {
         ticket,
         waiting,
         stale,
+        cause,
         label: labels.shared(ticket)?,
+    })
+}
+
+/// The cause that a ticket has by a table, once more.
+fn cause_in(alloc: Global, causes: &CauseTable, ticket: u32) -> Result<Option<KeptCause>, NoMemory>
+    ensures { IfOk result (λ c. c ≡ kept_cause_of ticket causes.now) }
+{
+    match causes.cause_of(ticket) {
+        Some(cause) => Ok(Some(cause.copy(alloc)?)),
+        None => Ok(None),
+    }
+}
+
+/// The block with the cause that it has by a table.
+fn caused(
+    alloc: Global,
+    block: CheckpointBlock,
+    causes: &CauseTable,
+) -> Result<CheckpointBlock, NoMemory>
+    ensures { IfOk result (λ b. b ≡ caused_block (λ t. kept_cause_of t causes.now) block) }
+{
+    let CheckpointBlock {
+        ticket,
+        waiting,
+        stale,
+        cause: _,
+        label,
+    } = block;
+    Ok(CheckpointBlock {
+        ticket,
+        waiting,
+        stale,
+        cause: cause_in(alloc, causes, ticket)?,
+        label,
     })
 }
 
@@ -147,6 +189,88 @@ fn all_labelled(
         push_block(&mut all, labelled(block, labels)?)?;
     }
     Ok(all)
+}
+
+/// The blocks with the causes that they have by a table.
+fn all_caused(
+    alloc: Global,
+    blocks: Vec<CheckpointBlock>,
+    causes: &CauseTable,
+) -> Result<Vec<CheckpointBlock>, NoMemory>
+    ensures { IfOk result (λ bs. bs.items ≡ map (caused_block (λ t. kept_cause_of t causes.now)) blocks.items) }
+{
+    let mut all = Vec::new(alloc);
+    for block in blocks {
+        push_block(&mut all, caused(alloc, block, causes)?)?;
+    }
+    Ok(all)
+}
+
+/// Whether a variable was read, with another value than this one.
+fn differs_from(reads: &[(u32, Value)], variable: u32, value: Value) -> bool
+    ensures { result ≡ differs_from (find variable reads.now) value }
+{
+    for read in reads {
+        if read.0 == variable {
+            return read.1 != value;
+        }
+    }
+    false
+}
+
+/// Whether each of these variables was read, with another value than it has here.
+fn all_differ(reads: &[(u32, Value)], left: &[(u32, Value)]) -> bool
+    ensures { result ≡ all_differ reads.now left.now }
+{
+    for one in left {
+        if !differs_from(reads, one.0, one.1) {
+            return false;
+        }
+    }
+    true
+}
+
+/// Whether a block of these reads may have been made stale so, if the next ticket is this one.
+fn is_kept_cause(
+    alloc: Global,
+    store: &Store,
+    next: u32,
+    reads: &[(u32, Value)],
+    cause: &KeptCause,
+) -> Result<bool, NoMemory>
+    ensures { IfOk result (λ b. IsTrue b ↔ IsKeptCause store.now next reads.now cause.now) }
+{
+    let left = cause.left.as_slice();
+    if cause.finish == 0 || cause.finish >= next || left.is_empty() || !all_differ(reads, left) {
+        return Ok(false);
+    }
+    let writes = writes_of(alloc, left)?;
+    Ok(store.fits(&writes))
+}
+
+/// Whether a block with this last delivery, if there was one, may have this cause, if it has one.
+fn may_have_cause(
+    alloc: Global,
+    store: &Store,
+    next: u32,
+    delivery: &Option<Delivery>,
+    cause: &Option<KeptCause>,
+) -> Result<bool, NoMemory>
+    ensures { IfOk result (λ b. IsTrue b
+        ↔ MayHaveCause store.now next (is_stale_delivery delivery.now) (option_map held_of delivery.now) cause.now) }
+{
+    match cause {
+        None => Ok(true),
+        Some(cause) => match delivery {
+            None => Ok(false),
+            Some(delivery) => {
+                if !delivery.is_stale() {
+                    return Ok(false);
+                }
+                is_kept_cause(alloc, store, next, delivery.reads(), cause)
+            }
+        },
+    }
 }
 
 fn push_block(blocks: &mut Vec<CheckpointBlock>, block: CheckpointBlock) -> Result<(), NoMemory>
@@ -180,41 +304,43 @@ impl Checkpoint {
         }
     }
 
-    /// Adds a waiting block after the others, with what its last delivery brought if there was one, and its label. Runs the block on
-    /// what it read to see that the delivery is right.
+    /// Adds a waiting block after the others, with what its last delivery brought if there was one, why it is stale if that is known,
+    /// and its label. Runs the block on what it read to see that the delivery is right.
     pub fn add(
         &mut self,
         alloc: Global,
         ticket: u32,
         block: SharedBlock,
         delivery: Option<Delivery>,
+        cause: Option<KeptCause>,
         label: SharedName,
     ) -> Result<(), AddError>
         ensures added { OnOk result (self.new
-            ≡ record self.old { blocks = self.old.blocks ++ checkpoint_block ticket block delivery label ∷ [] }) }
-        ensures may { OnOk result (MayAdd self.old (checkpoint_block ticket block delivery label)) }
+            ≡ record self.old { blocks = self.old.blocks ++ checkpoint_block ticket block delivery cause label ∷ [] }) }
+        ensures may { OnOk result (MayAdd self.old (checkpoint_block ticket block delivery cause label)) }
         ensures refused { IsErrOf result AddError.NotPossible
-            → MayAdd self.old (checkpoint_block ticket block delivery label) → ⊥ }
+            → MayAdd self.old (checkpoint_block ticket block delivery cause label) → ⊥ }
         ensures err { OnErr result (self.new ≡ self.old) }
     {
-        let block = self.checked(alloc, ticket, block, delivery, label)?;
+        let block = self.checked(alloc, ticket, block, delivery, cause, label)?;
         push_block(&mut self.blocks, block)?;
         Ok(())
     }
 
-    /// The block with its last delivery and its label; `NotPossible` if it can't be added.
+    /// The block with its last delivery, its cause and its label; `NotPossible` if it can't be added.
     fn checked(
         &self,
         alloc: Global,
         ticket: u32,
         block: SharedBlock,
         delivery: Option<Delivery>,
+        cause: Option<KeptCause>,
         label: SharedName,
     ) -> Result<CheckpointBlock, AddError>
-        ensures block { IfOk result (λ b. b ≡ checkpoint_block ticket block delivery label) }
-        ensures may { OnOk result (MayAdd self.now (checkpoint_block ticket block delivery label)) }
+        ensures block { IfOk result (λ b. b ≡ checkpoint_block ticket block delivery cause label) }
+        ensures may { OnOk result (MayAdd self.now (checkpoint_block ticket block delivery cause label)) }
         ensures refused { IsErrOf result AddError.NotPossible
-            → MayAdd self.now (checkpoint_block ticket block delivery label) → ⊥ }
+            → MayAdd self.now (checkpoint_block ticket block delivery cause label) → ⊥ }
     {
         if !self.has_place(ticket) {
             return Err(AddError::NotPossible);
@@ -225,9 +351,12 @@ impl Checkpoint {
         if !self.store.covers(block.block().uses()) {
             return Err(AddError::NotPossible);
         }
+        if !may_have_cause(alloc, &self.store, self.next, &delivery, &cause)? {
+            return Err(AddError::NotPossible);
+        }
         // The block is known to be well typed by this.
         let _action = block.block().action();
-        last_delivery(alloc, &self.store, ticket, block, delivery, label)
+        last_delivery(alloc, &self.store, ticket, block, delivery, cause, label)
     }
 
     /// Whether one block more may wait, under this ticket.
@@ -237,6 +366,25 @@ impl Checkpoint {
         self.blocks.len() < Machine::MAX_WAITING
             && last_ticket(&self.blocks) < ticket
             && ticket < self.next
+    }
+
+    /// The checkpoint with these causes in place of those that its blocks had.
+    pub fn with_causes(self, alloc: Global, causes: &CauseTable) -> Result<Checkpoint, NoMemory>
+        requires { MayHaveCauses self.store self.next (λ t. kept_cause_of t causes.now) self.blocks }
+        ensures { IfOk result (λ c. c ≡ with_causes (λ t. kept_cause_of t causes.now) self) }
+    {
+        let Checkpoint {
+            store,
+            names,
+            next,
+            blocks,
+        } = self;
+        Ok(Checkpoint {
+            store,
+            names,
+            next,
+            blocks: all_caused(alloc, blocks, causes)?,
+        })
     }
 
     /// The store of the checkpoint.
@@ -270,8 +418,8 @@ impl Checkpoint {
 }
 
 impl Machine {
-    /// A checkpoint of the present state, whose blocks have these labels. It goes over all waiting blocks and shares their texts; the
-    /// store is shared until it changes.
+    /// A checkpoint of the present state, whose blocks have these labels, and no causes. It goes over all waiting blocks and shares
+    /// their texts; the store is shared until it changes.
     pub fn checkpoint(
         &self,
         alloc: Global,
@@ -326,6 +474,11 @@ impl Machine {
 /// Events may go on from the state of a checkpoint.
 pub fn checkpoints_are_possible()
     ensures { CheckpointsArePossible }
+{}
+
+/// A checkpoint whose blocks get causes that they may have stays one, of the same state.
+pub fn causes_leave_checkpoints()
+    ensures { CausesLeaveCheckpoints }
 {}
 
 /// A checkpoint whose blocks get labels stays one, of the same state.

@@ -55,6 +55,7 @@ fn block_under(
         ticket,
         waiting: share_waiting(waiting)?,
         stale: waiting.held.is_some() && pending.has(ticket),
+        cause: None,
         label: SharedName::none(),
     })
 }

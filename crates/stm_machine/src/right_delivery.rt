@@ -14,6 +14,7 @@ use std::alloc::Global;
 use stm_check::{SharedBlock, Typed};
 use stm_eval::try_block;
 use stm_events::delivery::Delivery;
+use stm_events::kept_cause::KeptCause;
 use stm_events::shared_name::SharedName;
 use stm_log::Reads;
 use stm_store::{Frozen, Store};
@@ -44,7 +45,7 @@ fn same_reads(one: &[(u32, Value)], other: &[(u32, Value)]) -> bool
 }
 
 /// The writes of these values, with no result.
-fn writes_of(alloc: Global, values: &[(u32, Value)]) -> Result<Verdict, NoMemory>
+pub(crate) fn writes_of(alloc: Global, values: &[(u32, Value)]) -> Result<Verdict, NoMemory>
     ensures { IfOk result (λ v. v ≡ Commits values.now [] value.Unit) }
 {
     Ok(Verdict::Commits {
@@ -139,17 +140,18 @@ fn right_reads(
     }
 }
 
-/// A block of a checkpoint with its last delivery, if there was one, and its label; `NotPossible` if the delivery isn't right.
+/// A block of a checkpoint with its last delivery, if there was one, its cause and its label; `NotPossible` if the delivery isn't right.
 pub(crate) fn last_delivery(
     alloc: Global,
     store: &Store,
     ticket: u32,
     block: SharedBlock,
     delivery: Option<Delivery>,
+    cause: Option<KeptCause>,
     label: SharedName,
 ) -> Result<CheckpointBlock, AddError>
     requires { Covers (plains store.now) block.uses }
-    ensures block { IfOk result (λ b. b ≡ checkpoint_block ticket block delivery label) }
+    ensures block { IfOk result (λ b. b ≡ checkpoint_block ticket block delivery cause label) }
     ensures right { OnOk result
         (IsRightDelivery store.now block (is_stale_delivery delivery) (option_map held_of delivery)) }
     ensures refused { IsErrOf result AddError.NotPossible
@@ -160,6 +162,7 @@ pub(crate) fn last_delivery(
             ticket,
             waiting: Waiting { block, held: None },
             stale: false,
+            cause,
             label,
         }),
         Some(delivery) => {
@@ -172,6 +175,7 @@ pub(crate) fn last_delivery(
                     held: Some(Held { reads, verdict }),
                 },
                 stale: delivery.is_stale(),
+                cause,
                 label,
             })
         }
