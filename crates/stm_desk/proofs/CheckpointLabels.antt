@@ -6,15 +6,16 @@ use Rattle.stm_store.specs.Tables.{Declared}
 use Rattle.stm_events.specs.declared.event.Event.{Event}
 use Rattle.stm_events.specs.declared.event.What.{What}
 use Rattle.stm_events.specs.declared.event.What.TheVariants.{Submitted, Installed, Finished, Cancelled, Declared as DeclaredLate, Labelled}
-use Rattle.stm_events.specs.Labels.{Labels, AreLabels, is_label, label_of, labels_after, labels_from}
+use Rattle.stm_events.specs.declared.kept_cause.KeptCause.{KeptCause}
+use Rattle.stm_events.specs.Labels.{Labels, AreLabels, AreSameLabels, is_label, label_of, labels_after, labels_from}
 use Rattle.stm_events.specs.Labelling.{AreOfWaiting}
 use Rattle.stm_events.specs.SlowDesk.{Waiter, Slow, find_waiter, after, Allows, state_from, LegalFrom}
 use Rattle.stm_events.proofs.Labelling.{labels_are_of_waiting}
 use Rattle.stm_machine.specs.declared.checkpoint.CheckpointBlock.{CheckpointBlock}
-use Rattle.stm_machine.specs.Checkpoints.{CheckpointView, waiter_of, block_of_waiter, checkpoint_of, labelled_block, with_labels, before_labels, labels_in, first_labels, AreCheckpointBlocks, start_of, MayStart}
-use Rattle.stm_machine.proofs.CheckpointLabels.{is_there, label-in_labelled}
-use Rattle.stm_desk.specs.Kept.{AreAlike, HasLabels}
-use Rattle.stm_desk.proofs.Labels.{each_without, each_labelled}
+use Rattle.stm_machine.specs.Checkpoints.{CheckpointView, waiter_of, block_of_waiter, checkpoint_of, labelled_block, with_labels, caused_block, with_causes, before_labels, labels_in, first_labels, AreCheckpointBlocks, start_of, MayStart}
+use Rattle.stm_machine.proofs.CheckpointLabels.{no_label_is, is_there, label-in_labelled}
+use Rattle.stm_desk.specs.Kept.{HasLabels}
+use Rattle.stm_desk.proofs.Labels.{each_without, each_labelled, each_same}
 use Rattle.stm_desk.proofs.Starts.{start_possible}
 
 -- ---- only waiting blocks have labels
@@ -35,12 +36,12 @@ pub labels_wait : (table : List Declared) (o : Option CheckpointView) (history :
 labels_wait table o history m l = labels_are_of_waiting (start_of table o) (first_labels o) history (start_possible table o m) (first_wait table o) l
 
 -- ---- the same labels make the same checkpoint
-same_blocks : (ls ls' : Labels) (bs : List CheckpointBlock) → AreAlike ls ls' → map (labelled_block ls) bs ≡ map (labelled_block ls') bs
+same_blocks : (ls ls' : Labels) (bs : List CheckpointBlock) → AreSameLabels ls ls' → map (labelled_block ls) bs ≡ map (labelled_block ls') bs
 same_blocks ls ls' [] a = refl
 same_blocks ls ls' (b ∷ bs) a =
     ap (λ (x : List ℕ). (record b { label = x }) ∷ map (labelled_block ls) bs) (a b.ticket) ∙ ap (λ (xs : List CheckpointBlock). labelled_block ls' b ∷ xs) (same_blocks ls ls' bs a)
 
-pub same_checkpoint : (ls ls' : Labels) (c : CheckpointView) → AreAlike ls ls' → with_labels ls c ≡ with_labels ls' c
+pub same_checkpoint : (ls ls' : Labels) (c : CheckpointView) → AreSameLabels ls ls' → with_labels ls c ≡ with_labels ls' c
 same_checkpoint ls ls' c a = ap (λ (bs : List CheckpointBlock). record c { blocks = bs }) (same_blocks ls ls' c.blocks a)
 
 -- ---- and they are found in it again
@@ -60,29 +61,41 @@ found_again : (o : Option Waiter) (label : List ℕ) → (o ≡ None → label �
 found_again None label h = sym (h refl)
 found_again (Some w) label h = refl
 
-pub labels_again : (s : Slow) (ls : Labels) (t : ℕ) → AreOfWaiting s ls → label_of t (first_labels (Some (with_labels ls (checkpoint_of s)))) ≡ label_of t ls
+labels_again : (s : Slow) (ls : Labels) (t : ℕ) → AreOfWaiting s ls → label_of t (first_labels (Some (with_labels ls (checkpoint_of s)))) ≡ label_of t ls
 labels_again s ls t wait =
     label-in_labelled t ls (checkpoint_of s).blocks ∙ ap (λ (b : Bool). cond b (label_of t ls) []) (blocks_there t s) ∙ found_again (find_waiter t s.waiters) (label_of t ls) (wait t)
 
+-- causes change no label
+caused_labels : (causes : ℕ → Option KeptCause) (bs : List CheckpointBlock) → labels_in (map (caused_block causes) bs) ≡ labels_in bs
+caused_labels causes [] = refl
+caused_labels causes (b ∷ bs) = ap (before_labels b.ticket b.label) (caused_labels causes bs)
+
+pub labels_caused : (s : Slow) (ls : Labels) (causes : ℕ → Option KeptCause) (t : ℕ) → AreOfWaiting s ls → label_of t (first_labels (Some (with_causes causes (with_labels ls (checkpoint_of s))))) ≡ label_of t ls
+labels_caused s ls causes t wait = ap (label_of t) (caused_labels causes (with_labels ls (checkpoint_of s)).blocks) ∙ labels_again s ls t wait
+
 -- so they are kept over a checkpoint
-pub labels_kept : (s : Slow) (ls held : Labels) (o : Option CheckpointView) (history : List Event) (c : CheckpointView) → HasLabels o history held → labels_from (first_labels o) history ≡ ls → AreOfWaiting s ls
-    → c ≡ with_labels ls (checkpoint_of s) → HasLabels (Some c) [] held
-labels_kept s ls held o history c k given wait e = record {
-  same = λ t. k.same t ∙ ap (label_of t) given ∙ sym (labels_again s ls t wait) ∙ ap (λ (x : CheckpointView). label_of t (first_labels (Some x))) (sym e);
+pub labels_kept : (s : Slow) (ls held : Labels) (causes : ℕ → Option KeptCause) (o : Option CheckpointView) (history : List Event) (c : CheckpointView) → HasLabels o history held → labels_from (first_labels o) history ≡ ls → AreOfWaiting s ls
+    → c ≡ with_causes causes (with_labels ls (checkpoint_of s)) → HasLabels (Some c) [] held
+labels_kept s ls held causes o history c k given wait e = record {
+  same = λ t. k.same t ∙ ap (label_of t) given ∙ sym (labels_caused s ls causes t wait) ∙ ap (λ (x : CheckpointView). label_of t (first_labels (Some x))) (sym e);
   each = k.each;
 }
 
 -- ---- a history gives labels alone
+before_by : (b : Bool) (label other : List ℕ) → is_label label ≡ true → is_label other ≡ true → is_label (cond b label other) ≡ true
+before_by true label other h g = h
+before_by false label other h g = g
+
 each_before : (t : ℕ) (label : List ℕ) (rest : Labels) → is_label label ≡ true → AreLabels rest → AreLabels (before_labels t label rest)
 each_before t [] rest h a = a
-each_before t (b ∷ bs) rest h a = (h, a)
+each_before t (b ∷ bs) rest h a = λ u. before_by (nat_eq u t) (b ∷ bs) (label_of u rest) h (a u)
 
 each_in : (store : List Cell) (n k : ℕ) (bs : List CheckpointBlock) → AreCheckpointBlocks store n k bs → AreLabels (labels_in bs)
-each_in store n k [] a = tt
+each_in store n k [] a = λ u. no_label_is
 each_in store n k (b ∷ bs) a = each_before b.ticket b.label (labels_in bs) a.2.label (each_in store n b.ticket bs a.3)
 
 each_first : (table : List Declared) (o : Option CheckpointView) → MayStart table o → AreLabels (first_labels o)
-each_first table None m = tt
+each_first table None m = λ u. no_label_is
 each_first table (Some c) m = each_in c.store c.next 0 c.blocks m.0.blocks
 
 allowed_label : (o : Option Waiter) (label : List ℕ) → IsSomeAnd o (λ w. is_label label ≡ true) → is_label label ≡ true
@@ -102,8 +115,8 @@ each_from s [] ls k l = k
 each_from s (e ∷ es) ls k l = each_from (after s e.what) es (labels_after ls e.what) (each_after s e.what ls k l.0.what) l.1
 
 -- so these may be kept
-pub labels_begin : (table : List Declared) (o : Option CheckpointView) (history : List Event) (held : Labels) → MayStart table o → LegalFrom (start_of table o) history → held ≡ labels_from (first_labels o) history → HasLabels o history held
+pub labels_begin : (table : List Declared) (o : Option CheckpointView) (history : List Event) (held : Labels) → MayStart table o → LegalFrom (start_of table o) history → AreSameLabels held (labels_from (first_labels o) history) → HasLabels o history held
 labels_begin table o history held m l e = record {
-  same = λ t. ap (label_of t) e;
-  each = subst AreLabels (sym e) (each_from (start_of table o) history (first_labels o) (each_first table o m) l);
+  same = e;
+  each = each_same held (labels_from (first_labels o) history) e (each_from (start_of table o) history (first_labels o) (each_first table o m) l);
 }

@@ -6,14 +6,15 @@ use Rattle.stm_store.specs.Cells.{plains, Covers, IsStore, StoreIsTyped}
 use Rattle.stm_store.specs.Tables.{Declared, declared_cells, opened}
 use Rattle.stm_events.specs.declared.event.Event.{Event}
 use Rattle.stm_events.specs.declared.staleness.StalenessRule.TheVariants.{Changed}
+use Rattle.stm_events.specs.declared.kept_cause.KeptCause.{KeptCause}
 use Rattle.stm_events.specs.Labels.{Labels}
 use Rattle.stm_events.specs.SlowDesk.{Slow, state_from}
 use Rattle.stm_events.specs.States.{IsTypedState, observed}
 use Rattle.stm_events.proofs.Folds.{state-rule}
 use Rattle.stm_events.proofs.Kept.{variables_stay_covered}
-use Rattle.stm_machine.specs.Checkpoints.{CheckpointView, IsCheckpoint, checkpoint_of, checkpoint_state, with_labels, start_of, MayStart, max_next}
+use Rattle.stm_machine.specs.Checkpoints.{CheckpointView, IsCheckpoint, checkpoint_of, checkpoint_state, with_labels, with_causes, start_of, MayStart, max_next}
 use Rattle.stm_machine.specs.Machine.{Parts}
-use Rattle.stm_machine.proofs.CheckpointLabels.{same_state}
+use Rattle.stm_machine.proofs.CheckpointLabels.{same_state, caused_state}
 use Rattle.stm_machine.proofs.CheckpointStates.{is_possible, checkpoints_are_unseen}
 use Rattle.stm_machine.proofs.SameObserved.{same_observed_at}
 use Rattle.stm_desk.specs.Kept.{DeskInvariant}
@@ -41,21 +42,22 @@ module _ (table : List Declared) (o : Option CheckpointView) (limit : ℕ) (hist
   pub now_rule : now.rule ≡ Changed
   now_rule = state-rule (start_of table o) history ∙ start_rule table o
 
-  pub unseen : (labels : Labels) (c : CheckpointView) → c ≡ with_labels labels (checkpoint_of now) → IsCheckpoint c → observed (checkpoint_state c) ≡ observed now
-  unseen labels c e q =
-      let is : IsCheckpoint (with_labels labels (checkpoint_of now)) = subst IsCheckpoint e q in
+  pub unseen : (labels : Labels) (causes : ℕ → Option KeptCause) (c : CheckpointView) → c ≡ with_causes causes (with_labels labels (checkpoint_of now)) → IsCheckpoint c → observed (checkpoint_state c) ≡ observed now
+  unseen labels causes c e q =
+      let is : IsCheckpoint (with_causes causes (with_labels labels (checkpoint_of now))) = subst IsCheckpoint e q in
       let low : now.next ≤ max_next = subst (λ (n : ℕ). n ≤ max_next) (next_of now) is.tickets in
       let store : IsStore (plains now.store) = subst (λ (z : List Cell). IsStore (plains z)) (store_of now) is.store in
-      ap (λ (x : CheckpointView). observed (checkpoint_state x)) e ∙ ap observed (same_state labels (checkpoint_of now)) ∙ (checkpoints_are_unseen now k.at.possible now_typed now_rule low store).1
+      ap (λ (x : CheckpointView). observed (checkpoint_state x)) e ∙ ap observed (caused_state causes (with_labels labels (checkpoint_of now)) ∙ same_state labels (checkpoint_of now))
+      ∙ (checkpoints_are_unseen now k.at.possible now_typed now_rule low store).1
 
-  pub checkpoint_kept : (labels : Labels) (c : CheckpointView) → c ≡ with_labels labels (checkpoint_of now) → IsCheckpoint c → DeskInvariant table (Some c) limit [] m
-  checkpoint_kept labels c e q =
+  pub checkpoint_kept : (labels : Labels) (causes : ℕ → Option KeptCause) (c : CheckpointView) → c ≡ with_causes causes (with_labels labels (checkpoint_of now)) → IsCheckpoint c → DeskInvariant table (Some c) limit [] m
+  checkpoint_kept labels causes c e q =
       let same : now.store ≡ c.store = sym (ap (λ (x : CheckpointView). x.store) e ∙ store_of now) in
       let small = k.small in
       record {
         start = (q, λ uses h. subst (λ (z : List Cell). Covers (plains z) uses) same (variables_stay_covered (start_of table o) history uses (start_covers table o k.start uses h)));
         legal = record { each = tt; few = omega arith };
-        at = same_observed_at m now (checkpoint_state c) k.at (is_possible c q) (sym (unseen labels c e q));
+        at = same_observed_at m now (checkpoint_state c) k.at (is_possible c q) (sym (unseen labels causes c e q));
         few = omega arith;
         small = small;
         typed = tt;

@@ -13,9 +13,9 @@ use Rattle.stm_events.specs.SlowSettle.{ends}
 use Rattle.stm_events.proofs.SinceFrom.{TracksFrom, Here, Before, IsTracked, tracked_state}
 use Rattle.stm_machine.specs.Checkpoints.{MayStart}
 use Rattle.stm_desk.specs.DeskView.{DeskView, start_state, state_of}
-use Rattle.stm_desk.specs.Reasons.{Cause, first_cause, cause_since_delivery, WaitReason, NotEvaluated, IsStale, WasStale, Waits, CanFinish, current_reason, was_stale, reason_before, stale_reason, reason_since, reason_of_waiter, reason_of}
+use Rattle.stm_desk.specs.Reasons.{Cause, first_cause, cause_since_delivery, kept_cause_at, WaitReason, NotEvaluated, IsStale, Waits, CanFinish, current_reason, reason_kept, was_stale, reason_before, stale_reason, reason_since, reason_of_waiter, reason_of}
 use Rattle.stm_desk.specs.ReasonsTold.{cause_told, events_since, stale_at, stale_told}
-use Rattle.stm_desk.proofs.Causes.{is_caused, is_caused_before}
+use Rattle.stm_desk.proofs.CausesTold.{is_caused, is_caused_before}
 use Rattle.stm_desk.proofs.StaleBefore.{was_stale_at}
 use Rattle.stm_desk.proofs.Starts.{IsTypedHistory}
 
@@ -64,7 +64,7 @@ ticket_by : (b : Bool) (t : ℕ) (v w : Waiter) (o : Option Waiter) → nat_eq t
 ticket_by true t v w o e more f = let q : v ≡ w = cc in subst (λ (x : Waiter). x.ticket ≡ t) q (sym (eqb-true t v.ticket e))
 ticket_by false t v w o e more f = more f
 
-found_ticket : (t : ℕ) (ws : List Waiter) (w : Waiter) → find_waiter t ws ≡ Some w → w.ticket ≡ t
+pub found_ticket : (t : ℕ) (ws : List Waiter) (w : Waiter) → find_waiter t ws ≡ Some w → w.ticket ≡ t
 found_ticket t [] w f = cc
 found_ticket t (v ∷ ws) w f = ticket_by (nat_eq t v.ticket) t v w (find_waiter t ws) refl (found_ticket t ws w) f
 
@@ -74,7 +74,7 @@ stale_if false v x u e = cc
 
 -- what the events write tells the reason of a stale block
 abbrev pub IsStaleReason : DeskView → ℕ → List (ℕ × Value) → Type 0
-IsStaleReason d t reads = stale_told (stale_at t d.checkpoint) reads d.history (events_since t d.history) ≡ reason_of d t
+IsStaleReason d t reads = stale_told (stale_at t d.checkpoint) (kept_cause_at t d.checkpoint) reads d.history (events_since t d.history) ≡ reason_of d t
 
 reason_here : (b : Bool) (o : Option Cause) (r : Option WaitReason) → b ≡ true → (if b then option_map IsStale o else r) ≡ option_map IsStale o
 reason_here true o r e = refl
@@ -84,43 +84,49 @@ reason_else : (b : Bool) (o r : Option WaitReason) → b ≡ false → (if b the
 reason_else true o r e = cc
 reason_else false o r e = refl
 
-before_by : (b : Bool) (first told : Option Cause) → (b ≡ false → first ≡ told) → (if b then Some WasStale else option_map IsStale first) ≡ (if b then Some WasStale else option_map IsStale told)
-before_by true first told h = refl
-before_by false first told h = ap (option_map IsStale) (h refl)
+before_by : (b : Bool) (kept : WaitReason) (first told : Option Cause) → (b ≡ false → first ≡ told) → (if b then Some kept else option_map IsStale first) ≡ (if b then Some kept else option_map IsStale told)
+before_by true kept first told h = refl
+before_by false kept first told h = ap (option_map IsStale) (h refl)
 
-told_by : (d : DeskView) (t : ℕ) (w : Waiter) (s : Since) → MayStart d.table d.checkpoint → IsTypedHistory (start_state d) d.history → TracksFrom (start_state d) d.history t w.block s
-    → stale_reason t (reads_of (under s.store_then) w.block.tree) (start_state d) d.history ≡ stale_told (stale_at t d.checkpoint) (reads_of (under s.store_then) w.block.tree) d.history (events_since t d.history)
+pub told_by : (d : DeskView) (t : ℕ) (w : Waiter) (s : Since) → MayStart d.table d.checkpoint → IsTypedHistory (start_state d) d.history → TracksFrom (start_state d) d.history t w.block s
+    → stale_reason (kept_cause_at t d.checkpoint) t (reads_of (under s.store_then) w.block.tree) (start_state d) d.history
+    ≡ stale_told (stale_at t d.checkpoint) (kept_cause_at t d.checkpoint) (reads_of (under s.store_then) w.block.tree) d.history (events_since t d.history)
 told_by d t w s start k (Here since) =
     let p = is_caused (start_state d) d.history t w s k since in
     let reads = reads_of (under s.store_then) w.block.tree in
-    reason_here (is_installed t d.history) (cause_since_delivery t reads (start_state d) d.history) (reason_before t reads (start_state d) d.history) p.installed
-    ∙ ap (option_map IsStale) p.told ∙ ap (stale_told (stale_at t d.checkpoint) reads d.history) (sym p.since)
+    let kept = kept_cause_at t d.checkpoint in
+    reason_here (is_installed t d.history) (cause_since_delivery t reads (start_state d) d.history) (reason_before kept t reads (start_state d) d.history) p.installed
+    ∙ ap (option_map IsStale) p.told ∙ ap (stale_told (stale_at t d.checkpoint) kept reads d.history) (sym p.since)
 told_by d t w s start k (Before since) =
     let p = is_caused_before (start_state d) d.history t w s k since in
     let reads = reads_of (under s.store_then) w.block.tree in
-    reason_else (is_installed t d.history) (option_map IsStale (cause_since_delivery t reads (start_state d) d.history)) (reason_before t reads (start_state d) d.history) p.installed
-    ∙ before_by (was_stale (find_waiter t (start_state d).waiters)) (first_cause reads (start_state d) d.history) (cause_told reads d.history) p.told
-    ∙ ap (λ (b : Bool). stale_told b reads d.history None) (was_stale_at t d.table d.checkpoint start) ∙ ap (stale_told (stale_at t d.checkpoint) reads d.history) (sym p.since)
+    let kept = kept_cause_at t d.checkpoint in
+    reason_else (is_installed t d.history) (option_map IsStale (cause_since_delivery t reads (start_state d) d.history)) (reason_before kept t reads (start_state d) d.history) p.installed
+    ∙ before_by (was_stale (find_waiter t (start_state d).waiters)) (reason_kept reads kept) (first_cause reads (start_state d) d.history) (cause_told reads d.history) p.told
+    ∙ ap (λ (b : Bool). stale_told b kept reads d.history None) (was_stale_at t d.table d.checkpoint start) ∙ ap (stale_told (stale_at t d.checkpoint) kept reads d.history) (sym p.since)
 
 stale_reason_if : (b : Bool) (r o : Option WaitReason) → b ≡ true → cond b r o ≡ r
 stale_reason_if true r o e = refl
 stale_reason_if false r o e = cc
 
+-- why a block is stale, by what the events write
+pub stale_whole : (d : DeskView) (t : ℕ) (w : Waiter) (s : Since) → MayStart d.table d.checkpoint → IsTypedHistory (start_state d) d.history → find_waiter t (state_of d).waiters ≡ Some w → w.since ≡ Some s → is_stale_since w.block s ≡ true
+    → TracksFrom (start_state d) d.history t w.block s → reason_of d t ≡ stale_told (stale_at t d.checkpoint) (kept_cause_at t d.checkpoint) (reads_of (under s.store_then) w.block.tree) d.history (events_since t d.history)
+unfolding reason_of
+stale_whole d t w s start k f e stale tracks =
+    let looked = reads_of (under s.store_then) w.block.tree in
+    ap (reason_of_waiter d) f ∙ ap (reason_since d w) e
+    ∙ stale_reason_if (is_stale_since w.block s) (stale_reason (kept_cause_at w.ticket d.checkpoint) w.ticket looked (start_state d) d.history) (Some (current_reason (state_of d).store w)) stale
+    ∙ ap (λ (u : ℕ). stale_reason (kept_cause_at u d.checkpoint) u looked (start_state d) d.history) (found_ticket t (state_of d).waiters w f)
+    ∙ told_by d t w s start k tracks
+
 stale_since : (d : DeskView) (t : ℕ) (w : Waiter) (o : Option Since) (v : Option Verdict) (reads : List (ℕ × Value)) → MayStart d.table d.checkpoint → IsTypedHistory (start_state d) d.history → find_waiter t (state_of d).waiters ≡ Some w → w.since ≡ o
     → Stale v ≡ standing_since (state_of d).store w.block o → Some reads ≡ read_since_then w.block o → IsTracked (start_state d) d.history t w.block o → IsStaleReason d t reads
-unfolding reason_of
 stale_since d t w None v reads start k f e n r tracks = absurd (cc)
 stale_since d t w (Some s) v reads start k f e n r tracks =
     let stale : is_stale_since w.block s ≡ true = stale_if (is_stale_since w.block s) v (verdict_on s.store_then w.block) (verdict_on (state_of d).store w.block) n in
     let same : reads_of (under s.store_then) w.block.tree ≡ reads = cc in
-    let looked = reads_of (under s.store_then) w.block.tree in
-    let whole : reason_of d t ≡ stale_told (stale_at t d.checkpoint) looked d.history (events_since t d.history) =
-    ap (reason_of_waiter d) f ∙ ap (reason_since d w) e
-    ∙ stale_reason_if (is_stale_since w.block s) (stale_reason w.ticket looked (start_state d) d.history) (Some (current_reason (state_of d).store w)) stale
-    ∙ ap (λ (u : ℕ). stale_reason u looked (start_state d) d.history) (found_ticket t (state_of d).waiters w f)
-    ∙ told_by d t w s start k tracks
-    in
-    subst (λ (rs : List (ℕ × Value)). IsStaleReason d t rs) same (sym whole)
+    subst (λ (rs : List (ℕ × Value)). IsStaleReason d t rs) same (sym (stale_whole d t w s start k f e stale tracks))
 
 stale_by : (d : DeskView) (t : ℕ) (v : Option Verdict) (reads : List (ℕ × Value)) (o : Option Waiter) → MayStart d.table d.checkpoint → IsTypedHistory (start_state d) d.history → find_waiter t (state_of d).waiters ≡ o
     → Some (Stale v) ≡ option_map (standing (state_of d).store) o → Some reads ≡ read_then o → IsStaleReason d t reads
@@ -158,7 +164,7 @@ current_of d t w (Some s) v reads f e n r =
     let same : reads ≡ read_now (state_of d).store w = (let g = r c in cc) in
     ap Some (current_told v (state_of d).store w reads p.1 same)
     ∙ sym (ap (reason_of_waiter d) f ∙ ap (reason_since d w) e
-    ∙ current_reason_if (is_stale_since w.block s) d w (stale_reason w.ticket (reads_of (under s.store_then) w.block.tree) (start_state d) d.history) p.0)
+    ∙ current_reason_if (is_stale_since w.block s) d w (stale_reason (kept_cause_at w.ticket d.checkpoint) w.ticket (reads_of (under s.store_then) w.block.tree) (start_state d) d.history) p.0)
 
 current_by : (d : DeskView) (t : ℕ) (v : Verdict) (reads : List (ℕ × Value)) (o : Option Waiter) → find_waiter t (state_of d).waiters ≡ o → Some (Current (Some v)) ≡ option_map (standing (state_of d).store) o
     → ((w : Waiter) → o ≡ Some w → is_current w ≡ true → Some reads ≡ Some (read_now (state_of d).store w)) → Some (if is_blocks v then Waits reads else CanFinish) ≡ reason_of d t
@@ -180,31 +186,31 @@ reason_if : (b : Bool) (o : Option WaitReason) (r : WaitReason) → (b ≡ true 
 reason_if true o r h = h refl
 reason_if false o r h = refl
 
-has_before : (b : Bool) (told : Option Cause) → (b ≡ false → is_some told ≡ true) → is_some (if b then Some WasStale else option_map IsStale told) ≡ true
-has_before true told h = refl
-has_before false told h = some_mapped told (h refl)
+has_before : (b : Bool) (kept : WaitReason) (told : Option Cause) → (b ≡ false → is_some told ≡ true) → is_some (if b then Some kept else option_map IsStale told) ≡ true
+has_before true kept told h = refl
+has_before false kept told h = some_mapped told (h refl)
 
 has_told : (d : DeskView) (t : ℕ) (w : Waiter) (s : Since) → MayStart d.table d.checkpoint → IsTypedHistory (start_state d) d.history → TracksFrom (start_state d) d.history t w.block s → is_stale_since w.block s ≡ true
-    → is_some (stale_told (stale_at t d.checkpoint) (reads_of (under s.store_then) w.block.tree) d.history (events_since t d.history)) ≡ true
+    → is_some (stale_told (stale_at t d.checkpoint) (kept_cause_at t d.checkpoint) (reads_of (under s.store_then) w.block.tree) d.history (events_since t d.history)) ≡ true
 has_told d t w s start k (Here since) stale =
     let p = is_caused (start_state d) d.history t w s k since in
     let reads = reads_of (under s.store_then) w.block.tree in
-    ap (λ (o : Option (List Event)). is_some (stale_told (stale_at t d.checkpoint) reads d.history o)) p.since ∙ some_mapped (cause_told reads since.delivery.later) (p.caused stale)
+    ap (λ (o : Option (List Event)). is_some (stale_told (stale_at t d.checkpoint) (kept_cause_at t d.checkpoint) reads d.history o)) p.since ∙ some_mapped (cause_told reads since.delivery.later) (p.caused stale)
 has_told d t w s start k (Before since) stale =
     let p = is_caused_before (start_state d) d.history t w s k since in
     let reads = reads_of (under s.store_then) w.block.tree in
     let same = was_stale_at t d.table d.checkpoint start in
-    ap (λ (o : Option (List Event)). is_some (stale_told (stale_at t d.checkpoint) reads d.history o)) p.since
-    ∙ has_before (stale_at t d.checkpoint) (cause_told reads d.history) (λ none. p.caused (same ∙ none) stale)
+    ap (λ (o : Option (List Event)). is_some (stale_told (stale_at t d.checkpoint) (kept_cause_at t d.checkpoint) reads d.history o)) p.since
+    ∙ has_before (stale_at t d.checkpoint) (reason_kept reads (kept_cause_at t d.checkpoint)) (cause_told reads d.history) (λ none. p.caused (same ∙ none) stale)
 
 has_reason_since : (d : DeskView) (t : ℕ) (w : Waiter) (o : Option Since) → MayStart d.table d.checkpoint → IsTypedHistory (start_state d) d.history → find_waiter t (state_of d).waiters ≡ Some w → IsTracked (start_state d) d.history t w.block o
     → is_some (reason_since d w o) ≡ true
 has_reason_since d t w None start k f tracks = refl
 has_reason_since d t w (Some s) start k f tracks =
     let reads = reads_of (under s.store_then) w.block.tree in
-    reason_if (is_stale_since w.block s) (stale_reason w.ticket reads (start_state d) d.history) (current_reason (state_of d).store w)
+    reason_if (is_stale_since w.block s) (stale_reason (kept_cause_at w.ticket d.checkpoint) w.ticket reads (start_state d) d.history) (current_reason (state_of d).store w)
     (λ stale.
-    ap (λ (u : ℕ). is_some (stale_reason u reads (start_state d) d.history)) (found_ticket t (state_of d).waiters w f)
+    ap (λ (u : ℕ). is_some (stale_reason (kept_cause_at u d.checkpoint) u reads (start_state d) d.history)) (found_ticket t (state_of d).waiters w f)
     ∙ ap (λ (r : Option WaitReason). is_some r) (told_by d t w s start k tracks) ∙ has_told d t w s start k tracks stale)
 
 has_reason_by : (d : DeskView) (t : ℕ) (o : Option Waiter) → MayStart d.table d.checkpoint → IsTypedHistory (start_state d) d.history → find_waiter t (state_of d).waiters ≡ o → is_some (reason_of_waiter d o) ≡ is_some o

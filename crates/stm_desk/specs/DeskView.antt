@@ -9,7 +9,7 @@ use Rattle.stm_events.specs.Labels.{Labels, labels_from}
 use Rattle.stm_events.specs.SlowDesk.{Slow, Waiter, Standing, standing, verdict_on, find_waiter, state_from}
 use Rattle.stm_events.specs.SlowSettle.{settling}
 use Rattle.stm_events.specs.Rounds.{a_round}
-use Rattle.stm_machine.specs.Checkpoints.{CheckpointView, start_of, checkpoint_of, first_labels, with_labels}
+use Rattle.stm_machine.specs.Checkpoints.{CheckpointView, start_of, first_labels}
 use Rattle.stm_machine.specs.Machine.{event}
 use Rattle.stm_machine.specs.QueueAndIndex.{due_of, with_tickets}
 
@@ -33,14 +33,6 @@ state_of d = state_from (start_state d) d.history
 -- the labels of the waiting blocks: those with which the history begins, as its events change them
 abbrev pub labels_of : DeskView → Labels
 labels_of d = labels_from (first_labels d.checkpoint) d.history
-
--- the checkpoint of the present state, whose blocks have their labels
-abbrev pub checkpoint_now : DeskView → CheckpointView
-checkpoint_now d = with_labels (labels_of d) (checkpoint_of (state_of d))
-
--- the desk after a checkpoint: its history is empty, and begins from the present state
-abbrev pub checkpointed : DeskView → DeskView
-checkpointed d = record d { checkpoint = Some (checkpoint_now d); history = [] }
 
 -- the tickets that are queued or out, after one event more
 abbrev pub pending_after : What → List Entry → List Entry

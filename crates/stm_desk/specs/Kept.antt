@@ -1,9 +1,9 @@
 -- What the type of a desk keeps: its history is legal from where it begins and no longer than it may be, its machine is at the state
 -- that the history leads to, the blocks that were submitted are well typed, and it has the labels that the history gives.
-use Rattle.std.specs.Prelude.{◌≡◌, ℕ, ◌≤◌, List, length, Option}
+use Rattle.std.specs.Prelude.{ℕ, ◌≤◌, List, length, Option}
 use Rattle.stm_store.specs.Tables.{Declared}
 use Rattle.stm_events.specs.declared.event.Event.{Event}
-use Rattle.stm_events.specs.Labels.{Labels, AreLabels, label_of, labels_from}
+use Rattle.stm_events.specs.Labels.{Labels, AreLabels, AreSameLabels, labels_from}
 use Rattle.stm_events.specs.SlowDesk.{state_from, max_events}
 use Rattle.stm_events.specs.States.{IsLegalFrom}
 use Rattle.stm_events.specs.Laws.{SubmittedAreWellTyped}
@@ -21,11 +21,7 @@ pub record DeskInvariant
   pub small : limit ≤ max_events
   pub typed : SubmittedAreWellTyped history
 
--- these have the same label of each ticket, in whatever order
-abbrev pub AreAlike : Labels → Labels → Type 0
-AreAlike ls ls' = (t : ℕ) → label_of t ls ≡ label_of t ls'
-
 -- the labels that are kept are those with which the history begins, as its events change them
 pub record HasLabels (checkpoint : Option CheckpointView) (history : List Event) (held : Labels) : Type 0 where
-  pub same : AreAlike held (labels_from (first_labels checkpoint) history)
+  pub same : AreSameLabels held (labels_from (first_labels checkpoint) history)
   pub each : AreLabels held

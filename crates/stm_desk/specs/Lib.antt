@@ -1,12 +1,14 @@
 -- What a reader has to believe: what contracts see of a desk, what each call is refused for, what settling does, and what a
 -- waiting block waits for.
+pub mod Checkpointed
 pub mod DeskView
 pub mod Evaluating
 pub mod Events
 pub mod Reasons
 pub mod Refusals
 pub mod Settling
--- The words inside, for what a desk keeps, for its limit, for one step of settling, and for what is found of a reason.
+-- The words inside, for what a desk keeps, for its limit, for one step of settling, and for what is found of a reason or a cause.
+pub mod Causes
 pub mod Kept
 pub mod Limit
 pub mod ReasonsTold

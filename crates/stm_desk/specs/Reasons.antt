@@ -1,22 +1,26 @@
 -- What a waiting block waits for: a definition over the history. A block that is stale waits for another evaluation, because of
 -- the first finish after its last delivery that left a variable which it had read with another value. If that finish came before the
--- checkpoint that the history begins from, it is no longer known.
-use Rattle.std.specs.Prelude.{ℕ, Bool, false, not, ◌&&◌, if◌then◌else◌, List, [], ◌∷◌, ◌++◌, Option, Some, None, option_map}
+-- checkpoint that the history begins from, the checkpoint says which it was; it may not know.
+use Rattle.std.specs.Prelude.{ℕ, Bool, false, not, ◌&&◌, nat_eq, if◌then◌else◌, List, [], ◌∷◌, ◌++◌, Option, Some, None, option_map}
 use Rattle.stm_terms.specs.declared.values.Value.{Value}
-use Rattle.stm_terms.specs.Changes.{Variables}
+use Rattle.stm_terms.specs.Changes.{Variables, find}
 use Rattle.stm_terms.specs.ReadSet.{reads_of}
 use Rattle.stm_terms.specs.Value.{same_value}
 use Rattle.stm_store.specs.declared.cell.Cell.{Cell}
 use Rattle.stm_events.specs.declared.event.Event.{Event}
 use Rattle.stm_events.specs.declared.event.What.{What}
 use Rattle.stm_events.specs.declared.event.What.TheVariants.{Submitted, Installed, Finished, Cancelled, Declared as DeclaredLate, Labelled}
+use Rattle.stm_events.specs.declared.kept_cause.KeptCause.{KeptCause}
 use Rattle.stm_events.specs.BlockStatus.{read_now}
 use Rattle.stm_events.specs.Headline.{installs_to, is_installed}
 use Rattle.stm_events.specs.SlowDesk.{Since, Slow, Waiter, after, find_waiter, is_current, is_new, is_stale_since, under}
 use Rattle.stm_events.specs.SlowSettle.{can_end}
+use Rattle.stm_machine.specs.declared.checkpoint.CheckpointBlock.{CheckpointBlock}
+use Rattle.stm_machine.specs.Checkpoints.{CheckpointView}
 use Rattle.stm_desk.specs.declared.reason.Change.{Change}
 use Rattle.stm_desk.specs.DeskView.{DeskView, start_state, state_of}
 
+-- ---- causes
 -- the change of a variable from the value that was read to the one that it has, if that is another one
 abbrev pub change_to : ℕ → Value → Option Value → List Change
 change_to i v None = []
@@ -60,13 +64,28 @@ cause_since_delivery t reads s (e ∷ es) =
     else if installs_to t e.what then first_cause reads (after s e.what) es
     else cause_since_delivery t reads (after s e.what) es
 
+-- the cause that a checkpoint keeps of a block of these reads
+abbrev pub cause_again : List (ℕ × Value) → KeptCause → Cause
+cause_again reads k = record { finish = k.finish; changes = changes_from reads (λ i. find i k.left) }
+
+-- the cause that these blocks of a checkpoint keep of a ticket, if they keep one
+abbrev pub kept_cause_in : ℕ → List CheckpointBlock → Option KeptCause
+kept_cause_in t [] = None
+kept_cause_in t (b ∷ bs) = if nat_eq t b.ticket then b.cause else kept_cause_in t bs
+
+-- the same of a checkpoint, if there is one
+abbrev pub kept_cause_at : ℕ → Option CheckpointView → Option KeptCause
+kept_cause_at t None = None
+kept_cause_at t (Some c) = kept_cause_in t c.blocks
+
+-- ---- reasons
 -- what a waiting block waits for
 pub data WaitReason : Type 0 where
   -- an evaluation: there was none yet
   NotEvaluated : WaitReason
   -- another evaluation
   IsStale : Cause → WaitReason
-  -- the same, but it was stale already at the checkpoint that the history begins from
+  -- the same, but it was stale already at the checkpoint that the history begins from, which doesn't know why
   WasStale : WaitReason
   -- a change of one of these variables, of which it read these values: it is current and blocks
   Waits : List (ℕ × Value) → WaitReason
@@ -82,22 +101,28 @@ abbrev pub was_stale : Option Waiter → Bool
 was_stale None = false
 was_stale (Some w) = not (is_new w) && not (is_current w)
 
--- why a block of these reads is stale to which nothing was delivered in these events, which begin on a state
-abbrev pub reason_before : ℕ → List (ℕ × Value) → Slow → List Event → Option WaitReason
-reason_before t reads s events =
-    if was_stale (find_waiter t s.waiters) then Some WasStale else option_map IsStale (first_cause reads s events)
+-- why a block of these reads was stale at a checkpoint, by the cause that it keeps
+abbrev pub reason_kept : List (ℕ × Value) → Option KeptCause → WaitReason
+reason_kept reads None = WasStale
+reason_kept reads (Some k) = IsStale (cause_again reads k)
+
+-- why a block of these reads is stale to which nothing was delivered in these events, which begin on a state, with this cause if it was
+-- stale there
+abbrev pub reason_before : Option KeptCause → ℕ → List (ℕ × Value) → Slow → List Event → Option WaitReason
+reason_before kept t reads s events =
+    if was_stale (find_waiter t s.waiters) then Some (reason_kept reads kept) else option_map IsStale (first_cause reads s events)
 
 -- why a stale block of these reads is stale
-abbrev pub stale_reason : ℕ → List (ℕ × Value) → Slow → List Event → Option WaitReason
-stale_reason t reads s events =
-    if is_installed t events then option_map IsStale (cause_since_delivery t reads s events) else reason_before t reads s events
+abbrev pub stale_reason : Option KeptCause → ℕ → List (ℕ × Value) → Slow → List Event → Option WaitReason
+stale_reason kept t reads s events =
+    if is_installed t events then option_map IsStale (cause_since_delivery t reads s events) else reason_before kept t reads s events
 
 -- what a block waits for, by its last delivery
 abbrev pub reason_since : DeskView → Waiter → Option Since → Option WaitReason
 reason_since d w None = Some NotEvaluated
 reason_since d w (Some s) =
     if is_stale_since w.block s
-    then stale_reason w.ticket (reads_of (under s.store_then) w.block.tree) (start_state d) d.history
+    then stale_reason (kept_cause_at w.ticket d.checkpoint) w.ticket (reads_of (under s.store_then) w.block.tree) (start_state d) d.history
     else Some (current_reason (state_of d).store w)
 
 -- what a waiting block waits for, if there is one

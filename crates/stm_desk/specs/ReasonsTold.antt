@@ -11,13 +11,14 @@ use Rattle.stm_store.specs.FreshReferences.{AreWritable}
 use Rattle.stm_events.specs.declared.event.Event.{Event}
 use Rattle.stm_events.specs.declared.event.What.{What}
 use Rattle.stm_events.specs.declared.event.What.TheVariants.{Submitted, Installed, Finished, Cancelled, Declared as DeclaredLate, Labelled}
+use Rattle.stm_events.specs.declared.kept_cause.KeptCause.{KeptCause}
 use Rattle.stm_events.specs.Headline.{installs_to, is_installed}
 use Rattle.stm_machine.specs.declared.checkpoint.CheckpointBlock.{CheckpointBlock}
 use Rattle.stm_machine.specs.Checkpoints.{CheckpointView}
 use Rattle.stm_desk.specs.declared.reason.Change.{Change}
 use Rattle.stm_desk.specs.declared.reason.Reason.{Reason}
 use Rattle.stm_desk.specs.declared.reason.Reason.TheVariants as told
-use Rattle.stm_desk.specs.Reasons.{changes_from, ticket_of, Cause, cause_or, WaitReason, NotEvaluated, IsStale, WasStale, Waits, CanFinish}
+use Rattle.stm_desk.specs.Reasons.{changes_from, ticket_of, Cause, cause_or, WaitReason, NotEvaluated, IsStale, WasStale, Waits, CanFinish, reason_kept}
 
 -- the values that these writes leave, in a store that had n cells
 abbrev pub left_by_writes : ℕ → List (ℕ × Value) → Variables
@@ -57,10 +58,10 @@ stale_at t None = false
 stale_at t (Some c) = stale_in t c.blocks
 
 -- why a stale block of these reads is stale, by what the events after its last delivery write if there was one, and otherwise by
--- whether it was stale before all of these events
-abbrev pub stale_told : Bool → List (ℕ × Value) → List Event → Option (List Event) → Option WaitReason
-stale_told before reads history (Some later) = option_map IsStale (cause_told reads later)
-stale_told before reads history None = if before then Some WasStale else option_map IsStale (cause_told reads history)
+-- whether it was stale before all of these events, with this cause
+abbrev pub stale_told : Bool → Option KeptCause → List (ℕ × Value) → List Event → Option (List Event) → Option WaitReason
+stale_told before kept reads history (Some later) = option_map IsStale (cause_told reads later)
+stale_told before kept reads history None = if before then Some (reason_kept reads kept) else option_map IsStale (cause_told reads history)
 
 -- the writes of a verdict ascend, and may be read in a store that had n cells
 abbrev pub HasWritable : ℕ → Verdict → Type 0

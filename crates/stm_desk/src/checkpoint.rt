@@ -3,14 +3,19 @@
 ghost use Rattle.std.specs.Prelude.{◌≡◌, ℕ, ◌<◌, ◌≤◌, ◌↔◌, length, Some, option_map, IfOk, OnOk, OnErr, IsErrOf};
 ghost use Rattle.stm_events.specs.Labels.{label_of};
 ghost use Rattle.stm_events.specs.States.{observed};
-ghost use Rattle.stm_machine.specs.Checkpoints.{MayStart, max_next};
-ghost use Rattle.stm_desk.specs.DeskView.{state_of, labels_of, checkpoint_now, checkpointed};
+ghost use Rattle.stm_machine.specs.Checkpoints.{MayStart, checkpoint_of, with_labels, max_next};
+ghost use Rattle.stm_desk.specs.DeskView.{state_of, labels_of};
+ghost use Rattle.stm_desk.specs.Checkpointed.{checkpoint_now, checkpointed};
+ghost use Rattle.stm_desk.specs.Reasons.{reason_of};
 
 use crate::desk::Desk;
+use std::alloc::Global;
 use stm_machine::{Checkpoint, CheckpointError};
+use stm_terms::NoMemory;
 
 impl Desk {
-    /// The checkpoint of the present state, with the labels of its blocks, from which the history can begin (`begin_from`).
+    /// The checkpoint of the present state, with the labels of its blocks and with why the stale ones are stale, from which the history
+    /// can begin (`begin_from`). Goes through the history from its end, until the causes of all stale blocks are found.
     pub fn next_checkpoint(&self) -> Result<Checkpoint, CheckpointError>
         ensures taken { IfOk result (λ c. c ≡ checkpoint_now self.now) }
         ensures start { IfOk result (λ c. MayStart self.now.table (Some c)) }
@@ -22,18 +27,29 @@ impl Desk {
         // The variables are known to be well typed by this.
         let _variables = self.table.len();
         let alloc = *self.history.allocator();
-        let checkpoint = match self.machine.checkpoint(alloc, &self.labels) {
-            Ok(checkpoint) => checkpoint,
-            Err(refused) => return Err(refused),
-        };
+        match self.machine.checkpoint(alloc, &self.labels) {
+            Ok(checkpoint) => Ok(self.with_causes(alloc, checkpoint)?),
+            Err(refusal) => Err(refusal),
+        }
+    }
+
+    /// A checkpoint of the present state with the causes of its stale blocks.
+    fn with_causes(&self, alloc: Global, checkpoint: Checkpoint) -> Result<Checkpoint, NoMemory>
+        requires { checkpoint ≡ with_labels (labels_of self.now) (checkpoint_of (state_of self.now)) }
+        ensures taken { IfOk result (λ c. c ≡ checkpoint_now self.now) }
+        ensures start { IfOk result (λ c. MayStart self.now.table (Some c)) }
+    {
+        // The variables are known to be well typed by this.
+        let _variables = self.table.len();
         // It is known to be a checkpoint by this.
         let _next = checkpoint.next();
-        Ok(checkpoint)
+        let causes = self.causes(alloc, checkpoint.blocks())?;
+        checkpoint.with_causes(alloc, &causes)
     }
 
     /// Lets the history begin from the checkpoint of the present state, and returns how many events it had. No answer to any later call
-    /// differs, except that the history has room for as many events as the desk takes, and that `why` no longer knows why a block
-    /// became stale before. Queued tickets stay queued, and tickets that are out stay out.
+    /// differs, except that the history has room for as many events as the desk takes. Queued tickets stay queued, and tickets that are
+    /// out stay out.
     pub fn begin_from(&mut self, checkpoint: Checkpoint) -> u32
         requires { checkpoint ≡ checkpoint_now self.old }
         ensures events { result ≡ length self.old.history }
@@ -42,6 +58,8 @@ impl Desk {
         ensures unseen { observed (state_of self.new) ≡ observed (state_of self.old) }
         // Each block has the label that it had.
         ensures labels { (t : ℕ) → label_of t (labels_of self.new) ≡ label_of t (labels_of self.old) }
+        // Each block waits for what it waited for, for the same cause.
+        ensures reasons { (t : ℕ) → reason_of self.new t ≡ reason_of self.old t }
     {
         // The variables are known to be well typed by this.
         let _variables = self.table.len();
@@ -61,6 +79,7 @@ impl Desk {
         ensures taken { OnOk result (self.new ≡ checkpointed self.old) }
         ensures unseen { OnOk result (observed (state_of self.new) ≡ observed (state_of self.old)) }
         ensures labels { OnOk result ((t : ℕ) → label_of t (labels_of self.new) ≡ label_of t (labels_of self.old)) }
+        ensures reasons { OnOk result ((t : ℕ) → reason_of self.new t ≡ reason_of self.old t) }
         // Refused if and only if tickets could run out in a history from here, or for lack of memory.
         ensures room { OnOk result ((state_of self.old).next ≤ max_next) }
         ensures full { IsErrOf result CheckpointError.TicketsFull → max_next < (state_of self.old).next }

@@ -52,8 +52,8 @@ impl Desk {
             Ok(()) => {}
             Err(refusal) => return Err(refusal),
         }
-        let told = shared_name(*self.history.allocator(), label)?;
-        let kept = told.share()?;
+        let shared = shared_name(*self.history.allocator(), label)?;
+        let kept = shared.share()?;
         self.history.reserve(1)?;
         self.labels.set(ticket, kept)?;
         self.machine.label(ticket, label);
@@ -61,7 +61,7 @@ impl Desk {
             client,
             what: What::Labelled {
                 ticket,
-                label: told,
+                label: shared,
             },
         });
         Ok(())

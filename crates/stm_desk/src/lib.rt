@@ -3,14 +3,15 @@
 //! A desk is a machine of `stm_machine` with the table that it was opened on, the checkpoint that its history begins from, how many
 //! events it takes, and the list of its events. Contracts see these and the tickets that are queued or out (`specs/DeskView`); all else
 //! is what the slow desk makes of the history (`stm_events/specs/SlowDesk`). `specs/Refusals` says what each call is refused for,
-//! `specs/Evaluating` what evaluating the queued blocks does, `specs/Settling` what settling does and why it stops, and
-//! `specs/Reasons` what a waiting block waits for. Each accepted call adds exactly its event, and `atomically` all of its events or
-//! none. Only `evaluate_queued`, `settle`, `drain` and `atomically` evaluate blocks.
+//! `specs/Evaluating` what evaluating the queued blocks does, `specs/Settling` what settling does and why it stops, `specs/Reasons`
+//! what a waiting block waits for, and `specs/Checkpointed` what a checkpoint has. Each accepted call adds exactly its event, and
+//! `atomically` all of its events or none. Only `evaluate_queued`, `settle`, `drain` and `atomically` evaluate blocks.
 #![tactic(auto)]
 
 // The desk and its calls.
 pub mod atomic;
 pub mod cancel;
+mod causes;
 pub mod checkpoint;
 pub mod declare;
 pub mod deliver;

@@ -1,7 +1,7 @@
 //! A desk that goes on from where a history ends.
 
 ghost use Rattle.std.specs.Prelude.{◌≡◌, ◌≤◌, ◌↔◌, false, length, IsOk, IfOk};
-ghost use Rattle.stm_events.specs.Labels.{labels_from};
+ghost use Rattle.stm_events.specs.Labels.{AreSameLabels, labels_from};
 ghost use Rattle.stm_events.specs.Laws.{SubmittedAreWellTyped};
 ghost use Rattle.stm_events.specs.SlowDesk.{state_from, max_events as most_events};
 ghost use Rattle.stm_events.specs.States.{IsLegalFrom};
@@ -41,7 +41,7 @@ impl Desk {
         requires at { IsAt machine (state_from (start_of table checkpoint) events.items) }
         requires typed { SubmittedAreWellTyped events.items }
         // The labels are those that the events give.
-        requires labels { labels ≡ labels_from (first_labels checkpoint) events.items }
+        requires labels { AreSameLabels labels (labels_from (first_labels checkpoint) events.items) }
         requires small { max_events ≤ most_events }
         ensures fits { IsOk result ↔ (length events.items ≤ max_events) }
         ensures table { IfOk result (λ d. d.table ≡ table) }

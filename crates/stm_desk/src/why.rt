@@ -1,6 +1,6 @@
 //! Why a block waits.
 
-ghost use Rattle.std.specs.Prelude.{◌≡◌, ◌∷◌, [], MatchOption, IfOk, if◌then◌else◌, is_some, option_map};
+ghost use Rattle.std.specs.Prelude.{◌≡◌, ◌∷◌, [], Some, MatchOption, IfOk, if◌then◌else◌, is_some, option_map};
 ghost use Rattle.std.specs.Option.{option_copied};
 ghost use Rattle.stm_terms.specs.Changes.{find as value_in};
 ghost use Rattle.stm_terms.specs.Typing.{Rising};
@@ -10,14 +10,14 @@ ghost use Rattle.stm_store.specs.FreshReferences.{HasNumber, AreWritable};
 ghost use Rattle.stm_events.specs.Headline.{installs_to as is_delivery_to};
 ghost use Rattle.stm_events.specs.SlowDesk.{find_waiter, is_blocks};
 ghost use Rattle.stm_desk.specs.DeskView.{state_of};
-ghost use Rattle.stm_desk.specs.Reasons.{change_to, changes_from, ticket_of as ticket_in, IsStale, Waits as WaitsFor, CanFinish, reason_of};
+ghost use Rattle.stm_desk.specs.Reasons.{change_to, changes_from, kept_cause_in, kept_cause_at, ticket_of as ticket_in, IsStale, Waits as WaitsFor, CanFinish, reason_kept, reason_of};
 ghost use Rattle.stm_desk.specs.ReasonsTold.{left_by_writes, left_by_verdict, HasWritable, IsWritable, EachIsWritable, events_since as events_after, changes_told as changes_of, cause_told, cause_of, stale_in, stale_at, stale_told, told_reason};
 
 use crate::desk::Desk;
 use crate::reason::{Change, Reason};
 use std::alloc::Global;
 use stm_events::shared_verdict::blocks;
-use stm_events::{Event, SharedVerdict, Status, What};
+use stm_events::{Event, KeptCause, SharedVerdict, Status, What};
 use stm_machine::{Checkpoint, CheckpointBlock};
 use stm_terms::NoMemory;
 use stm_terms::values::{Ref, Value};
@@ -76,18 +76,59 @@ fn stale_reason<'a>(
 ) -> Result<Option<Reason<'a>>, NoMemory>
     requires { EachIsWritable history.now }
     ensures { IfOk result (λ r. option_map told_reason r
-        ≡ stale_told (stale_at ticket (option_map (λ c. c.now) checkpoint.entry)) reads.now history.now (events_after ticket history.now)) }
+        ≡ stale_told (stale_at ticket (option_map (λ c. c.now) checkpoint.entry)) (kept_cause_at ticket (option_map (λ c. c.now) checkpoint.entry))
+        reads.now history.now (events_after ticket history.now)) }
 {
     match events_since(history, ticket) {
         Some(later) => stale_by(alloc, reads, later),
         None => {
             if was_stale(checkpoint, ticket) {
-                Ok(Some(Reason::WasStale))
+                stale_before(alloc, reads, cause_kept_at(checkpoint, ticket))
             } else {
                 stale_by(alloc, reads, history)
             }
         }
     }
+}
+
+/// A block that was stale at the checkpoint, by the cause that the checkpoint keeps of it.
+fn stale_before<'a>(
+    alloc: Global,
+    reads: &[(u32, Value)],
+    kept: Option<&KeptCause>,
+) -> Result<Option<Reason<'a>>, NoMemory>
+    ensures { IfOk result (λ r. option_map told_reason r
+        ≡ Some (reason_kept reads.now (option_map (λ k. k.now) kept.entry))) }
+{
+    match kept {
+        None => Ok(Some(Reason::WasStale)),
+        Some(cause) => Ok(Some(Reason::Stale {
+            finish: cause.finish,
+            changes: changes_again(alloc, reads, cause.left.as_slice())?,
+        })),
+    }
+}
+
+/// The cause that the checkpoint keeps of the block under a ticket, if there is one.
+fn cause_kept_at(checkpoint: Option<&Checkpoint>, ticket: u32) -> Option<&KeptCause>
+    ensures { option_copied result ≡ kept_cause_at ticket (option_map (λ c. c.now) checkpoint.entry) }
+{
+    match checkpoint {
+        Some(checkpoint) => cause_kept_in(checkpoint.blocks(), ticket),
+        None => None,
+    }
+}
+
+/// The same of these blocks of a checkpoint.
+fn cause_kept_in(blocks: &[CheckpointBlock], ticket: u32) -> Option<&KeptCause>
+    ensures { option_copied result ≡ kept_cause_in ticket blocks.now }
+{
+    for block in blocks {
+        if ticket == block.ticket {
+            return block.cause.as_ref();
+        }
+    }
+    None
 }
 
 /// A stale block, by the first of these events that changed variables of its reads.
@@ -200,7 +241,7 @@ fn changes_told(alloc: Global, reads: &[(u32, Value)], what: &What) -> Result<Ve
 }
 
 /// The variables of the reads that a verdict leaves with another value, in a store that had this many cells.
-fn changes_by(
+pub(crate) fn changes_by(
     alloc: Global,
     reads: &[(u32, Value)],
     verdict: &SharedVerdict,
@@ -247,19 +288,66 @@ fn change_of(variable: u32, read: Value, writes: &[(u32, Value)], first_new: u32
 {
     match find(writes, variable) {
         None => None,
-        Some(written) => {
-            let left = renumber(first_new, written);
-            if is_same(read, left) {
-                None
-            } else {
-                Some(Change {
-                    variable,
-                    read,
-                    left,
-                })
-            }
+        Some(written) => change_to(variable, read, renumber(first_new, written)),
+    }
+}
+
+/// The change of a variable to this value, unless it is the one that was read.
+fn change_to(variable: u32, read: Value, left: Value) -> Option<Change>
+    ensures { MatchOption result
+        (change_to variable read (Some left) ≡ [])
+        (λ c. change_to variable read (Some left) ≡ c ∷ []) }
+{
+    if is_same(read, left) {
+        None
+    } else {
+        Some(Change {
+            variable,
+            read,
+            left,
+        })
+    }
+}
+
+/// The changes of these reads to the values that were left.
+fn changes_again(
+    alloc: Global,
+    reads: &[(u32, Value)],
+    left: &[(u32, Value)],
+) -> Result<Vec<Change>, NoMemory>
+    ensures { IfOk result (λ cs. cs.items ≡ changes_from reads.now (λ i. value_in i left.now)) }
+{
+    let mut changes = Vec::new(alloc);
+    for (variable, read) in reads {
+        if let Some(change) = change_again(*variable, *read, left) {
+            changes.push(change)?;
         }
     }
+    Ok(changes)
+}
+
+/// The change of one variable to the value that was left, if there is one.
+fn change_again(variable: u32, read: Value, left: &[(u32, Value)]) -> Option<Change>
+    ensures { MatchOption result
+        (change_to variable read (value_in variable left.now) ≡ [])
+        (λ c. change_to variable read (value_in variable left.now) ≡ c ∷ []) }
+{
+    match value_left(left, variable) {
+        None => None,
+        Some(left) => change_to(variable, read, left),
+    }
+}
+
+/// The value that a variable was left with, if it is one of these.
+fn value_left(left: &[(u32, Value)], variable: u32) -> Option<Value>
+    ensures { result ≡ value_in variable left.now }
+{
+    for one in left {
+        if one.0 == variable {
+            return Some(one.1);
+        }
+    }
+    None
 }
 
 fn is_same(one: Value, other: Value) -> bool

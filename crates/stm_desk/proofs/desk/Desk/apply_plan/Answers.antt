@@ -1,7 +1,6 @@
 use Rattle.std.proofs.Common.{◌≡◌, List, [], ◌∷◌, ◌++◌, false, refl, rules, sym, subst}
 use Rattle.stm_events.specs.declared.event.Event.{Event}
 use Rattle.stm_events.specs.declared.event.What.TheVariants.{Finished}
-use Rattle.stm_events.specs.Labels.{without_label}
 use Rattle.stm_events.specs.SlowDesk.{state_from}
 use Rattle.stm_machine.specs.Checkpoints.{start_of}
 use Rattle.stm_machine.specs.Machine.{event}
@@ -23,8 +22,7 @@ invariant_of-self-2 c =
     let p = c.args.plan.now in
     let r = subst (λ (d : DeskView). is_full d ≡ false) (sym c.self.view_is) c.requires.room in
     let is : c.push_reserved.new.self.items ≡ c.self.inside.history.items ++ event c.args.client (Finished c.args.ticket p.verdict p.first_new p.stale) ∷ [] = search rules in
-    rw c.remove.ensures
-    (subst (λ (es : List Event). DeskInvariant c.self.inside.table c.self.inside.checkpoint c.self.inside.limit es c.finish.new.self × HasLabels c.self.inside.checkpoint es (without_label c.args.ticket c.self.inside.labels)) (sym is) (
+    subst (λ (es : List Event). DeskInvariant c.self.inside.table c.self.inside.checkpoint c.self.inside.limit es c.finish.new.self × HasLabels c.self.inside.checkpoint es c.remove.new.self) (sym is) (
       kept_move _ _ _ _ _ c.self.invariant.0 c.args.client (Finished c.args.ticket p.verdict p.first_new p.stale) c.finish.new.self c.requires.client r tt c.in_ok-applied.ensures.moved,
-      label_goes _ _ _ c.self.invariant.1 c.args.client (Finished c.args.ticket p.verdict p.first_new p.stale) c.args.ticket refl,
-    ))
+      label_goes _ _ _ c.self.invariant.1 c.args.client (Finished c.args.ticket p.verdict p.first_new p.stale) c.args.ticket c.remove.new.self c.remove.ensures refl,
+    )

@@ -2,7 +2,6 @@ use Rattle.std.proofs.Common.{◌≡◌, List, [], ◌∷◌, ◌++◌, None, fa
 use Rattle.stm_events.specs.declared.errors.CancelError.TheVariants.{NoMemory}
 use Rattle.stm_events.specs.declared.event.Event.{Event}
 use Rattle.stm_events.specs.declared.event.What.TheVariants.{Cancelled}
-use Rattle.stm_events.specs.Labels.{without_label}
 use Rattle.stm_events.specs.SlowDesk.{state_from}
 use Rattle.stm_machine.specs.Checkpoints.{start_of}
 use Rattle.stm_machine.specs.Machine.{event}
@@ -23,8 +22,7 @@ pub invariant_of-self-2 : goal.invariant_of-self-2
 invariant_of-self-2 c =
     let r = subst (λ (d : DeskView). is_full d ≡ false) (sym c.self.view_is) c.in-Ok.ensures.room in
     let is : c.push_reserved.new.self.items ≡ c.self.inside.history.items ++ event c.args.client (Cancelled c.args.ticket) ∷ [] = search rules in
-    rw c.remove.ensures
-    (subst (λ (es : List Event). DeskInvariant c.self.inside.table c.self.inside.checkpoint c.self.inside.limit es c.cancel.new.self × HasLabels c.self.inside.checkpoint es (without_label c.args.ticket c.self.inside.labels)) (sym is) (
+    subst (λ (es : List Event). DeskInvariant c.self.inside.table c.self.inside.checkpoint c.self.inside.limit es c.cancel.new.self × HasLabels c.self.inside.checkpoint es c.remove.new.self) (sym is) (
       kept_move _ _ _ _ _ c.self.invariant.0 c.args.client (Cancelled c.args.ticket) c.cancel.new.self c.requires r tt c.cancel.ensures.moved,
-      label_goes _ _ _ c.self.invariant.1 c.args.client (Cancelled c.args.ticket) c.args.ticket refl,
-    ))
+      label_goes _ _ _ c.self.invariant.1 c.args.client (Cancelled c.args.ticket) c.args.ticket c.remove.new.self c.remove.ensures refl,
+    )

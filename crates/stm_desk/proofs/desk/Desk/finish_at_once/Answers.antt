@@ -1,7 +1,8 @@
-use Rattle.std.proofs.Common.{◌≡◌, ◌∙◌, List, None, Some, [], ◌∷◌, false, length, refl, sym, ap, subst, arith}
+use Rattle.std.proofs.Common.{◌≡◌, ◌∙◌, ℕ, List, None, Some, [], ◌∷◌, false, length, refl, sym, ap, subst, arith}
 use Rattle.stm_store.specs.declared.cell.Cell.{Cell}
 use Rattle.stm_store.specs.Cells.{plains, Fits, applied_answer}
 use Rattle.stm_events.specs.declared.event.What.TheVariants.{Submitted, Installed, Finished}
+use Rattle.stm_events.specs.Labels.{AreSameLabels, without_label}
 use Rattle.stm_events.specs.Refusals.{submit_refused, overflows}
 use Rattle.stm_events.specs.SlowAtomically.{atomically}
 use Rattle.stm_events.specs.SlowDesk.{state_from, verdict_on}
@@ -31,12 +32,13 @@ invariant_of-self-2 c =
     let v = subst (λ (d : DeskView). verdict_on (state_of d).store c.args.block ≡ Some c.args.verdict.now) (sym c.self.view_is) c.requires.verdict in
     let moves = c.in_ok-applied.ensures.moved s c.args.block c.self.invariant.0.at e (v ∙ ap Some (sym c.in_ok-plan.ensures.verdict)) in
     let next : c.next_ticket-ticket.result ≡ s.next = c.next_ticket-ticket.ensures.next s c.self.invariant.0.at in
-    rw (c.push_three.ensures, c.in_ok-events.ensures.submitted, c.in_ok-events.ensures.installed, c.in_ok-events.ensures.finished, c.in_ok-events.ensures.items, c.remove.ensures, next, three_more) (
+    let left = subst (λ (n : ℕ). AreSameLabels c.remove.new.self (without_label n c.self.inside.labels)) next c.remove.ensures in
+    rw (c.push_three.ensures, c.in_ok-events.ensures.submitted, c.in_ok-events.ensures.installed, c.in_ok-events.ensures.finished, c.in_ok-events.ensures.items, next, three_more) (
       kept_moves _ _ _ _ _ c.self.invariant.0 c.args.client
           (Submitted s.next c.args.block ∷ Installed s.next c.in_ok-plan.plan.verdict ∷ Finished s.next c.in_ok-plan.plan.verdict c.in_ok-plan.plan.first_new c.in_ok-plan.plan.stale ∷ []) c.run.new.self
           c.requires.client (has_room _ _ 3 r) (c.say_typed.ensures, (tt, (tt, tt))) moves.0 moves.1,
       label_goes_at_once _ _ _ c.self.invariant.1 c.args.client (Submitted s.next c.args.block) (Installed s.next c.in_ok-plan.plan.verdict)
-          (Finished s.next c.in_ok-plan.plan.verdict c.in_ok-plan.plan.first_new c.in_ok-plan.plan.stale) s.next refl refl refl,
+          (Finished s.next c.in_ok-plan.plan.verdict c.in_ok-plan.plan.first_new c.in_ok-plan.plan.stale) s.next c.remove.new.self left refl refl refl,
     )
 
 pub returns-clause-accepted : goal.returns-clause-accepted

@@ -1,6 +1,7 @@
-use Rattle.std.proofs.Common.{◌≡◌, None, false, sym, subst}
+use Rattle.std.proofs.Common.{◌≡◌, ◌∙◌, ℕ, List, None, false, sym, subst}
 use Rattle.stm_events.specs.declared.errors.LabelError.TheVariants.{NoMemory}
 use Rattle.stm_events.specs.declared.event.What.TheVariants.{Labelled}
+use Rattle.stm_events.specs.Labels.{AreSameLabels, labelled}
 use Rattle.stm_events.specs.SlowDesk.{state_from}
 use Rattle.stm_machine.specs.Checkpoints.{start_of}
 use Rattle.stm_desk.specs.DeskView.{DeskView, is_full}
@@ -18,7 +19,8 @@ label-requires-clause-may c =
 pub invariant_of-self-2 : goal.invariant_of-self-2
 invariant_of-self-2 c =
     let r = subst (λ (d : DeskView). is_full d ≡ false) (sym c.self.view_is) c.in-Ok.ensures.room in
-    rw (c.push_reserved.ensures.items, c.in_ok-reserve.ensures.items, c.in_ok-set.ensures.ok, c.in_ok-kept.ensures, c.in_ok-told.ensures) (
+    let same = subst (λ (l : List ℕ). AreSameLabels c.set.new.self (labelled c.args.ticket l c.self.inside.labels)) (c.in_ok-kept.ensures ∙ c.in_ok-shared.ensures) c.in_ok-set.ensures.ok in
+    rw (c.push_reserved.ensures.items, c.in_ok-reserve.ensures.items, c.in_ok-shared.ensures) (
       kept_move _ _ _ _ _ c.self.invariant.0 c.args.client (Labelled c.args.ticket c.args.label.now) _ c.requires.client r tt c.label.ensures,
-      label_comes _ _ _ c.self.invariant.1 c.args.client c.args.ticket c.args.label.now c.requires.label,
+      label_comes _ _ _ c.self.invariant.1 c.args.client c.args.ticket c.args.label.now c.set.new.self same c.requires.label,
     )

@@ -41,12 +41,12 @@ use Rattle.stm_desk.proofs.ReadValues.{AreRead, reads_are, found_read, unchanged
 use Rattle.stm_desk.proofs.Starts.{IsTypedHistory}
 
 -- ---- each verdict of a history fits the store on which it takes effect
-record IsFinish (s : Slow) (v : Verdict) (n : ℕ) : Type 0 where
+pub record IsFinish (s : Slow) (v : Verdict) (n : ℕ) : Type 0 where
   pub fits : Fits (plains s.store) v
   pub first_new : n ≡ length s.store
   pub room : length s.store + length (made_by v) ≤ 1000000
 
-abbrev FitsHere : Slow → What → Type 0
+abbrev pub FitsHere : Slow → What → Type 0
 FitsHere s (Submitted t block) = Unit {0}
 FitsHere s (Installed t v) = Unit {0}
 FitsHere s (Finished t v n stale) = IsFinish s v n
@@ -54,7 +54,7 @@ FitsHere s (Cancelled t) = Unit {0}
 FitsHere s (DeclaredLate name kind value) = Unit {0}
 FitsHere s (Labelled t label) = Unit {0}
 
-abbrev FitFrom : Slow → List Event → Type 0
+abbrev pub FitFrom : Slow → List Event → Type 0
 FitFrom s [] = Unit {0}
 FitFrom s (e ∷ es) = FitsHere s e.what × FitFrom (after s e.what) es
 
@@ -80,10 +80,10 @@ fit_from s (e ∷ es) possible state legal typed = (
   fit_from (after s e.what) es (possible_after s e.what possible legal.0.what) (typed_after s e.what possible legal.0.what typed.0 state) legal.1 typed.1,
 )
 
-fit_all : (s : Slow) (history : List Event) → IsTypedHistory s history → FitFrom s history
+pub fit_all : (s : Slow) (history : List Event) → IsTypedHistory s history → FitFrom s history
 fit_all s history k = fit_from s history k.possible k.state k.legal k.typed
 
-fit_rest : (s : Slow) (before more : List Event) → FitFrom s (before ++ more) → FitFrom (state_from s before) more
+pub fit_rest : (s : Slow) (before more : List Event) → FitFrom s (before ++ more) → FitFrom (state_from s before) more
 fit_rest s [] more f = f
 fit_rest s (e ∷ before) more f = fit_rest (after s e.what) before more f.1
 
@@ -117,7 +117,7 @@ declared_read [] store kind value h = tt
 declared_read (r ∷ rs) store kind value h = (value_stays Written store (declaration kind value) r.0 r.1 refl h.0, declared_read rs store kind value h.1)
 
 -- ---- the changes of an event are told by what it writes
-told_here : (reads : List (ℕ × Value)) (s : Slow) (what : What) → FitsHere s what → AreRead reads (under s.store)
+pub told_here : (reads : List (ℕ × Value)) (s : Slow) (what : What) → FitsHere s what → AreRead reads (under s.store)
     → (changes_from reads (under (after s what).store) ≡ changes_told reads what) × (changes_told reads what ≡ [] → AreRead reads (under (after s what).store))
 told_here reads s (Submitted t block) f h = (unchanged reads (under s.store) h, λ e. h)
 told_here reads s (Installed t v) f h = (unchanged reads (under s.store) h, λ e. h)
@@ -150,7 +150,7 @@ unchanged_by : (b : Bool) (cells : List Cell) (v : Verdict) (i : ℕ) (x : Value
 unchanged_by true cells v i x p f e g = absurd ((changed_differ cells v i f (is_within cells i x e)).0 p (g ∙ sym e))
 unchanged_by false cells v i x p f e g = refl
 
-not_woken : (s : Slow) (what : What) (i : ℕ) (x : Value) → s.rule ≡ Changed → FitsHere s what → under s.store i ≡ Some x → under (after s what).store i ≡ Some x → list_any (nat_eq i) (waking_at s what) ≡ false
+pub not_woken : (s : Slow) (what : What) (i : ℕ) (x : Value) → s.rule ≡ Changed → FitsHere s what → under s.store i ≡ Some x → under (after s what).store i ≡ Some x → list_any (nat_eq i) (waking_at s what) ≡ false
 not_woken s (Submitted t block) i x r f e g = refl
 not_woken s (Installed t v) i x r f e g = refl
 not_woken s (Finished t v n l) i x r f e g = rw r (unchanged_by (list_any (nat_eq i) (changed_by s.store v)) s.store v i x refl f.fits e g)
@@ -172,7 +172,7 @@ never_woken reads s (e ∷ es) i x r f h there none =
     (not_woken s e.what i x r f.0 (found_read i x reads (under s.store) h there) (found_read i x reads (under (after s e.what).store) now there))
     (never_woken reads (after s e.what) es i x (after-rule s e.what ∙ r) f.1 now there q.1)
 
-none_met : (woken is : List ℕ) → ((j : ℕ) → In j is → list_any (nat_eq j) woken ≡ false) → intersects woken is ≡ false
+pub none_met : (woken is : List ℕ) → ((j : ℕ) → In j is → list_any (nat_eq j) woken ≡ false) → intersects woken is ≡ false
 none_met woken [] h = refl
 none_met woken (i ∷ is) h = neither (list_any (nat_eq i) woken) (intersects woken is) (h i (inl refl)) (none_met woken is (λ j m. h j (inr m)))
 
@@ -184,7 +184,7 @@ some_by : (o : Option Cause) → (o ≡ None → true ≡ false) → is_some o �
 some_by None h = sym (h refl)
 some_by (Some c) h = refl
 
-found_by : (i : ℕ) (reads : List (ℕ × Value)) (o : Option Value) (b : Bool) (woken : List ℕ) → find i reads ≡ o → IsSome o → ((x : Value) → find i reads ≡ Some x → list_any (nat_eq i) woken ≡ false) → list_any (nat_eq i) woken ≡ false
+pub found_by : (i : ℕ) (reads : List (ℕ × Value)) (o : Option Value) (b : Bool) (woken : List ℕ) → find i reads ≡ o → IsSome o → ((x : Value) → find i reads ≡ Some x → list_any (nat_eq i) woken ≡ false) → list_any (nat_eq i) woken ≡ false
 found_by i reads None b woken e some h = cc
 found_by i reads (Some x) b woken e some h = h x e
 
@@ -235,7 +235,7 @@ pub record IsCausedBefore (start : Slow) (history : List Event) (t : ℕ) (w : W
   pub caused : was_stale (find_waiter t start.waiters) ≡ false → is_stale_since w.block s ≡ true → is_some (cause_told (reads_of (under s.store_then) w.block.tree) history) ≡ true
 
 -- a block that was not stale was current
-was_current : (w : Waiter) (s : Since) → w.since ≡ Some s → was_stale (Some w) ≡ false → is_stale_since w.block s ≡ false
+pub was_current : (w : Waiter) (s : Since) → w.since ≡ Some s → was_stale (Some w) ≡ false → is_stale_since w.block s ≡ false
 was_current w s e h = by w.block w.since e h where
   twice : (b : Bool) → not (not b) ≡ false → b ≡ false
   twice true h = cc
