@@ -9,6 +9,7 @@ use Rattle.stm_store.specs.Naming.{Named}
 use Rattle.stm_check.specs.TypedBlock.{Block}
 use Rattle.stm_events.specs.Delivered.{Delivered}
 use Rattle.stm_events.specs.declared.event.Event.{Event}
+use Rattle.stm_events.specs.declared.kept_cause.KeptCause.{KeptCause}
 use Rattle.stm_event_lines.specs.declared.checkpoint.NamedCell.{NamedCell}
 use Rattle.stm_event_lines.specs.declared.checkpoint.WaitingBlock.{WaitingBlock}
 use Rattle.stm_event_lines.specs.CheckpointFields.{cell_of, cell_parts, waiting_of}
@@ -34,6 +35,6 @@ loose_cell_same (Ok o) line json ok h = λ name c f l. h name c f (cell_is line 
 loose_cell_same (Err e) line json ok h = tt
 
 pub loose_waiting_same : {E : Type 0} (r : Result (Option WaitingBlock) E) (known : List Named) (line : List ℕ) (json : Data) → read line ≡ Some json → IfOk r (λ o. o ≡ waiting_of known json)
-    → IfOk r (λ o. (ticket : ℕ) (b : Block) (label : List ℕ) (d : Option Delivered) → FitsWaiting known ticket b label d → waiting_line ticket b.text label d ≡ line → o ≡ Some (record { ticket = ticket; block = b; label = label; delivery = d }))
-loose_waiting_same (Ok o) known line json ok h = λ ticket b label d f l. h ∙ waiting_is known line ticket b label d json f l ok
+    → IfOk r (λ o. (ticket : ℕ) (b : Block) (c : Option KeptCause) (label : List ℕ) (d : Option Delivered) → FitsWaiting known ticket b c label d → waiting_line ticket b.text c label d ≡ line → o ≡ Some (record { ticket = ticket; block = b; cause = c; label = label; delivery = d }))
+loose_waiting_same (Ok o) known line json ok h = λ ticket b c label d f l. h ∙ waiting_is known line ticket b c label d json f l ok
 loose_waiting_same (Err e) known line json ok h = tt

@@ -8,6 +8,7 @@ use Rattle.stm_terms.specs.declared.verdicts.Verdict.{Verdict}
 use Rattle.stm_store.specs.declared.cell.Cell.{Cell}
 use Rattle.stm_store.specs.Naming.{Named}
 use Rattle.stm_events.specs.Delivered.{Delivered}
+use Rattle.stm_events.specs.declared.kept_cause.KeptCause.{KeptCause}
 use Rattle.stm_events.specs.Labels.{is_label}
 use Rattle.stm_event_lines.specs.declared.checkpoint.CheckpointHeader.{CheckpointHeader}
 use Rattle.stm_event_lines.specs.declared.checkpoint.NamedCell.{NamedCell}
@@ -84,11 +85,22 @@ label_in text = if is_label text then Some text else None
 abbrev pub label_field : Data → Option (List ℕ)
 label_field d = if is_some (get (codes "label") d) then option_and_then label_in (text_field (codes "label") d) else Some []
 
+-- why the block is stale: the finish, and what it left
+abbrev pub cause_in : Data → Option KeptCause
+cause_in d =
+    option_and_then (λ finish. option_map (λ left. record { finish = finish; left = left }) (list_field write_of (codes "changed") d))
+    (number_field (codes "cause") d)
+
+-- why the block is stale; or that this isn't known, if there is no finish
+abbrev pub cause_field : Data → Option (Option KeptCause)
+cause_field d = if is_some (get (codes "cause") d) then option_map Some (cause_in d) else Some None
+
 -- a waiting block over these names
 abbrev pub waiting_of : List Named → Data → Option WaitingBlock
 waiting_of known d =
-    option_and_then (λ ticket. option_and_then (λ block. option_and_then (λ label.
-    option_map (λ delivery. record { ticket = ticket; block = block; label = label; delivery = delivery }) (delivery_of d))
+    option_and_then (λ ticket. option_and_then (λ block. option_and_then (λ cause. option_and_then (λ label.
+    option_map (λ delivery. record { ticket = ticket; block = block; cause = cause; label = label; delivery = delivery }) (delivery_of d))
     (label_field d))
+    (cause_field d))
     (option_and_then (block_of_text known) (text_field (codes "block") d)))
     (number_field (codes "ticket") d)

@@ -1,6 +1,7 @@
 -- The lines of a history that begins from a checkpoint, before its events, without their line feeds: the first line, a line for
 -- each variable of the store, and one for each waiting block.
-use Rattle.std.specs.Prelude.{⊤, ◌≡◌, ◌⊎◌, ℕ, ◌^◌, ◌<◌, ◌≤◌, List, [], ◌∷◌, map, Option, Some, None, Ok, IsTrue, codes}
+use Rattle.std.specs.Prelude.{⊤, ◌≡◌, ◌⊎◌, ℕ, ◌^◌, ◌<◌, ◌≤◌, List, [], ◌∷◌, map, Option, Some, None, Ok, IsTrue, codes, option_map}
+use Rattle.std.specs.Option.{option_copied}
 use Rattle.serde_json.specs.Data.{Data, Members, null, boolean, string, array, object, member, no_members}
 use Rattle.serde_json.specs.View.{items_of}
 use Rattle.serde_json.specs.Written.{compact_text}
@@ -11,13 +12,16 @@ use Rattle.stm_store.specs.declared.cell.Cell.{Cell}
 use Rattle.stm_store.specs.Naming.{Named}
 use Rattle.stm_check.specs.TypedBlock.{Block}
 use Rattle.stm_events.specs.Delivered.{Delivered}
+use Rattle.stm_events.specs.declared.kept_cause.KeptCause.{KeptCause}
 use Rattle.stm_events.specs.Labels.{is_label}
+use Rattle.stm_event_lines.specs.declared.checkpoint.DeliveredParts.{DeliveredParts}
+use Rattle.stm_event_lines.specs.declared.checkpoint.WaitingLine.{WaitingLine}
 use Rattle.stm_event_lines.specs.Fits.{Is32Bit, FitsValue, FitsVerdict, FitWrites}
 use Rattle.stm_event_lines.specs.Lines.{declaring_format, number_data, value_data, write_data, verdict_data}
 use Rattle.stm_event_lines.specs.WholeBlocks.{checked_block}
 
--- the format of histories that begin from a checkpoint, if no variable is declared late, none was before the checkpoint, and no block is
--- labelled
+-- the format of histories that begin from a checkpoint, if no variable is declared late, none was before the checkpoint, no block is
+-- labelled, and of no block in the checkpoint it is known why it is stale
 abbrev pub checkpoint_format : ℕ
 checkpoint_format = 4
 
@@ -69,6 +73,13 @@ abbrev pub label_before : List ℕ → Members → Members
 label_before [] more = more
 label_before (b ∷ bs) more = member (codes "label") (string (b ∷ bs)) more
 
+-- why the block is stale before other members, if that is known: the finish, and what it left of what the block had read
+abbrev pub cause_before : Option KeptCause → Members → Members
+cause_before None more = more
+cause_before (Some c) more =
+    member (codes "cause") (number_data c.finish)
+    (member (codes "changed") (array (items_of (map write_data c.left))) more)
+
 -- what the last delivery brought, if there was one, with the ticket among it
 abbrev pub delivery_members : ℕ → Option Delivered → Members
 delivery_members ticket None = member (codes "ticket") (number_data ticket) no_members
@@ -78,14 +89,31 @@ delivery_members ticket (Some d) =
     (member (codes "ticket") (number_data ticket)
     (member (codes "verdict") (verdict_data d.verdict) no_members)))
 
--- in JSON: a new one has its text and its ticket, and its label if it has one; one to which something was delivered has what it read,
--- whether it is stale, and the verdict besides
-abbrev pub waiting_data : ℕ → List ℕ → List ℕ → Option Delivered → Data
-waiting_data ticket text label delivery =
-    object (member (codes "block") (string text) (label_before label (delivery_members ticket delivery)))
+-- all members but the text, which is the first
+abbrev pub members_after_text : ℕ → Option KeptCause → List ℕ → Option Delivered → Members
+members_after_text ticket cause label delivery = cause_before cause (label_before label (delivery_members ticket delivery))
 
-unfoldable pub waiting_line : ℕ → List ℕ → List ℕ → Option Delivered → List ℕ
-waiting_line ticket text label delivery = compact_text (waiting_data ticket text label delivery)
+-- in JSON: a new one has its text and its ticket, and its label if it has one; one to which something was delivered has what it read,
+-- whether it is stale, and the verdict besides; and one of which it is known why it is stale has the cause
+abbrev pub waiting_data : ℕ → List ℕ → Option KeptCause → List ℕ → Option Delivered → Data
+waiting_data ticket text cause label delivery =
+    object (member (codes "block") (string text) (members_after_text ticket cause label delivery))
+
+unfoldable pub waiting_line : ℕ → List ℕ → Option KeptCause → List ℕ → Option Delivered → List ℕ
+waiting_line ticket text cause label delivery = compact_text (waiting_data ticket text cause label delivery)
+
+-- what these parts say that a delivery brought
+abbrev pub parts_delivered : DeliveredParts → Delivered
+parts_delivered p = record { reads = p.reads.now; verdict = p.verdict.now; stale = p.stale }
+
+-- in JSON: what a writer is given
+abbrev pub given_data : WaitingLine → Data
+given_data l = waiting_data l.ticket l.text.now (option_copied l.cause) l.label.now (option_map parts_delivered l.delivery)
+
+-- all numbers and values of the cause are in range
+abbrev pub FitsCause : Option KeptCause → Type 0
+FitsCause None = ⊤
+FitsCause (Some c) = Is32Bit c.finish × FitWrites c.left
 
 -- all numbers and values of the delivery are in range
 abbrev pub FitsDelivery : Option Delivered → Type 0
@@ -93,6 +121,10 @@ FitsDelivery None = ⊤
 FitsDelivery (Some d) = FitWrites d.reads × FitsVerdict d.verdict
 
 -- the waiting block can stand in a line over the names: its numbers are in range, it is what its text checks to, and its label is one
-abbrev pub FitsWaiting : List Named → ℕ → Block → List ℕ → Option Delivered → Type 0
-FitsWaiting known ticket block label delivery =
-    Is32Bit ticket × (checked_block known block.text ≡ Ok block) × FitsDelivery delivery × IsTrue (is_label label)
+abbrev pub FitsWaiting : List Named → ℕ → Block → Option KeptCause → List ℕ → Option Delivered → Type 0
+FitsWaiting known ticket block cause label delivery =
+    Is32Bit ticket
+    × (checked_block known block.text ≡ Ok block)
+    × FitsCause cause
+    × FitsDelivery delivery
+    × IsTrue (is_label label)

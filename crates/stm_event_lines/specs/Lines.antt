@@ -24,7 +24,8 @@ use Rattle.stm_events.specs.declared.staleness.StalenessRule.TheVariants.{Writte
 abbrev pub latest_format : ℕ
 latest_format = 3
 
--- the format of histories in which a variable is declared late, or was before their checkpoint, or a block is labelled
+-- the format of histories in which a variable is declared late, or was before their checkpoint, or a block is labelled, or of a block in the
+-- checkpoint it is known why it is stale
 abbrev pub declaring_format : ℕ
 declaring_format = 5
 

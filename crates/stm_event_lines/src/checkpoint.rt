@@ -1,17 +1,19 @@
 //! The lines of a history that begins from a checkpoint, before its events.
 
-ghost use Rattle.std.specs.Prelude.{◌≡◌, ◌≢◌, ◌↔◌, ◌≤◌, ◌<◌, ◌^◌, ℕ, List, [], Option, None, Some, IfOk, IfSome, IsErrOf, OnOk, IsTrue, map, codes, option_map, option_and_then, string_bytes};
-ghost use Rattle.serde_json.specs.Data.{array, boolean};
-ghost use Rattle.serde_json.specs.Events.{SendsValue, SendsMembers};
+ghost use Rattle.std.specs.Prelude.{◌≡◌, ◌≢◌, ◌↔◌, ◌≤◌, ◌<◌, ◌^◌, ◌+◌, ℕ, List, Option, None, Some, IfOk, IfSome, IsErrOf, OnOk, IsTrue, map, codes, option_map, option_and_then, string_bytes};
+ghost use Rattle.std.specs.Option.{option_copied};
+ghost use Rattle.serde_json.specs.Data.{array, boolean, Members};
+ghost use Rattle.serde_json.specs.Events.{SendsValue, SendsMembers, members_len};
 ghost use Rattle.serde_json.specs.Find.{get};
 ghost use Rattle.serde_json.specs.View.{view, items_of};
 ghost use Rattle.stm_terms.specs.Limits.{most_refs};
 ghost use Rattle.stm_store.specs.declared.cell.Cell.{Cell as AnyCell};
 ghost use Rattle.stm_check.specs.TypedBlock.{Block};
 ghost use Rattle.stm_events.specs.Delivered.{Delivered};
+ghost use Rattle.stm_events.specs.declared.kept_cause.KeptCause.{KeptCause as AnyCause};
 ghost use Rattle.stm_events.specs.Labels.{is_label};
-ghost use Rattle.stm_event_lines.specs.CheckpointFields.{checkpoint_header_of as header_meant, count_field, name_of, counted_cell_of, cell_of as cell_meant, cell_parts, bool_field, delivery_in, delivery_of as delivery_meant, label_in as label_in_meant, label_field, waiting_of as waiting_meant};
-ghost use Rattle.stm_event_lines.specs.CheckpointLines.{IsCheckpointFormat, checkpoint_header_data, checkpoint_header_line, name_data, cell_data, cell_line, delivery_members, waiting_data, waiting_line, FitsName, FitsCell, FitsDelivery, FitsWaiting};
+ghost use Rattle.stm_event_lines.specs.CheckpointFields.{checkpoint_header_of as header_meant, count_field, name_of, counted_cell_of, cell_of as cell_meant, cell_parts, bool_field, delivery_in, delivery_of as delivery_meant, label_in as label_in_meant, label_field, cause_in, cause_field, waiting_of as waiting_meant};
+ghost use Rattle.stm_event_lines.specs.CheckpointLines.{IsCheckpointFormat, checkpoint_header_data, checkpoint_header_line, name_data, cell_data, cell_line, label_before, cause_before, delivery_members, members_after_text, parts_delivered, given_data, waiting_line, FitsName, FitsCell, FitsCause, FitsDelivery, FitsWaiting};
 ghost use Rattle.stm_event_lines.specs.Fields.{block_of_text, text_field, verdict_field};
 ghost use Rattle.stm_event_lines.specs.Fits.{Is32Bit, FitsValue, FitsVerdict};
 ghost use Rattle.stm_event_lines.specs.Lines.{write_data};
@@ -31,10 +33,12 @@ use serde_json::{Value as Json, json, to_string};
 use std::alloc::Global;
 use stm_check::SharedBlock;
 use stm_events::delivery::Delivery;
+use stm_events::kept_cause::KeptCause;
 use stm_events::label::is_label;
 use stm_events::shared_name::SharedName;
 use stm_events::shared_verdict::SharedVerdict;
 use stm_store::{Cell, Names};
+use stm_terms::lists::Writes;
 use stm_terms::values::Value;
 use stm_terms::verdicts::Verdict;
 use stm_terms::{NoMemory, is_name};
@@ -55,12 +59,13 @@ pub struct NamedCell {
     pub cell: Cell,
 }
 
-/// A block that waits under a ticket, with its label, which is empty if it has none, and with what its last delivery brought, if there
-/// was one.
+/// A block that waits under a ticket, with why it is stale, if that is known, with its label, which is empty if it has none, and with what
+/// its last delivery brought, if there was one.
 #[derive(Drop)]
 pub struct WaitingBlock {
     pub ticket: u32,
     pub block: SharedBlock,
+    pub cause: Option<KeptCause>,
     pub label: SharedName,
     pub delivery: Option<Delivery>,
 }
@@ -121,36 +126,37 @@ pub fn cell_text(alloc: Global, name: Option<&str>, cell: Cell) -> Result<String
     variable.to_string(alloc)
 }
 
-fn new_block_json(alloc: Global, ticket: u32, text: &str, label: &str) -> Result<Json, NoMemory>
-    ensures { IfOk result (λ v. view v ≡ waiting_data ticket text.now label.now None) }
-{
-    if label.is_empty() {
-        json!(in alloc; {"block": text, "ticket": ticket})
-    } else {
-        json!(in alloc; {"block": text, "label": label, "ticket": ticket})
-    }
+/// What the last delivery to a block brought.
+#[derive(Clone, Copy)]
+pub struct DeliveredParts<'a> {
+    pub reads: &'a [(u32, Value)],
+    pub verdict: &'a SharedVerdict,
+    pub stale: bool,
 }
 
-/// The line of a new block.
-#[tactic(auto, unfolding(crate::specs::CheckpointLines::waiting_line))]
-pub fn new_block_text(
-    alloc: Global,
-    ticket: u32,
-    text: &str,
-    label: &str,
-) -> Result<String, NoMemory>
-    ensures { IfOk result (λ s. string_bytes s ≡ waiting_line ticket text.now label.now None) }
-{
-    let block = new_block_json(alloc, ticket, text, label)?;
-    block.to_string(alloc)
+/// A waiting block, as a writer of JSON is given it: its text, why it is stale if that is known, its label, which is empty if it has
+/// none, and what its last delivery brought, if there was one.
+#[derive(Drop)]
+pub struct WaitingLine<'a> {
+    pub alloc: Global,
+    pub ticket: u32,
+    pub text: &'a str,
+    pub cause: Option<&'a KeptCause>,
+    pub label: &'a str,
+    pub delivery: Option<DeliveredParts<'a>>,
 }
 
-fn send_reads_at<S: Serializer>(reads: &[(u32, Value)], out: &mut S) -> Result<(), S::Error>
-    ensures { OnOk result (SendsMember (codes "reads") (array (items_of (map write_data reads.now)))
+/// Sends a member whose value is a list of pairs of a variable's number and a value.
+fn send_pairs_at<S: Serializer>(
+    key: &str,
+    pairs: &[(u32, Value)],
+    out: &mut S,
+) -> Result<(), S::Error>
+    ensures { OnOk result (SendsMember key.now (array (items_of (map write_data pairs.now)))
         (S.written out.old) (S.written out.new)) }
 {
-    out.key("reads")?;
-    send_writes(reads, out)
+    out.key(key)?;
+    send_writes(pairs, out)
 }
 
 fn send_stale_at<S: Serializer>(stale: bool, out: &mut S) -> Result<(), S::Error>
@@ -161,120 +167,143 @@ fn send_stale_at<S: Serializer>(stale: bool, out: &mut S) -> Result<(), S::Error
     out.bool(stale)
 }
 
-/// A block to which something was delivered, as a writer of JSON takes it.
-#[derive(Drop)]
-struct DeliveredLine<'a> {
-    alloc: Global,
-    ticket: u32,
-    text: &'a str,
-    label: &'a str,
-    reads: &'a [(u32, Value)],
-    verdict: &'a SharedVerdict,
-    stale: bool,
-}
-
-/// Sends what a delivery brought, and the end of its object.
-fn send_delivery<S: Serializer>(line: &DeliveredLine<'_>, out: &mut S) -> Result<(), S::Error>
-    ensures { OnOk result (SendsMembers (delivery_members line.now.ticket (Some (record {
-      reads = line.now.reads.now;
-      verdict = line.now.verdict.now;
-      stale = line.now.stale;
-    })))
+/// Sends the ticket of a new block, and the end of its object.
+fn send_new_block<S: Serializer>(ticket: u32, out: &mut S) -> Result<(), S::Error>
+    ensures { OnOk result (SendsMembers (delivery_members ticket None)
         (S.written out.old) (S.written out.new)) }
 {
-    send_reads_at(line.reads, out)?;
-    send_stale_at(line.stale, out)?;
-    send_number_at("ticket", line.ticket, out)?;
-    send_verdict_at(line.alloc, line.verdict, out)?;
+    send_number_at("ticket", ticket, out)?;
     out.end_map()
 }
 
-/// Sends a block that has no label.
-fn send_unlabelled<S: Serializer>(line: &DeliveredLine<'_>, out: &mut S) -> Result<(), S::Error>
-    ensures { OnOk result (SendsValue (waiting_data line.now.ticket line.now.text.now [] (Some (record {
-      reads = line.now.reads.now;
-      verdict = line.now.verdict.now;
-      stale = line.now.stale;
-    })))
+/// Sends what a delivery brought, with the block's ticket among it, and the end of its object.
+fn send_parts<S: Serializer>(
+    alloc: Global,
+    ticket: u32,
+    parts: DeliveredParts<'_>,
+    out: &mut S,
+) -> Result<(), S::Error>
+    ensures { OnOk result (SendsMembers (delivery_members ticket (Some (parts_delivered parts.entry)))
         (S.written out.old) (S.written out.new)) }
 {
-    out.begin_map(Some(5))?;
-    send_text_at("block", line.text, out)?;
-    send_delivery(line, out)
+    send_pairs_at("reads", parts.reads, out)?;
+    send_stale_at(parts.stale, out)?;
+    send_number_at("ticket", ticket, out)?;
+    send_verdict_at(alloc, parts.verdict, out)?;
+    out.end_map()
 }
 
-/// Sends a block that has a label.
-fn send_with_label<S: Serializer>(line: &DeliveredLine<'_>, out: &mut S) -> Result<(), S::Error>
-    requires { line.now.label.now ≢ [] }
-    ensures { OnOk result (SendsValue (waiting_data line.now.ticket line.now.text.now line.now.label.now (Some (record {
-      reads = line.now.reads.now;
-      verdict = line.now.verdict.now;
-      stale = line.now.stale;
-    })))
+/// Sends what the last delivery brought if there was one, the ticket, and the end of the object.
+fn send_delivery<S: Serializer>(line: &WaitingLine<'_>, out: &mut S) -> Result<(), S::Error>
+    ensures { OnOk result (SendsMembers (delivery_members line.now.ticket (option_map parts_delivered line.now.delivery))
         (S.written out.old) (S.written out.new)) }
 {
-    out.begin_map(Some(6))?;
-    send_text_at("block", line.text, out)?;
+    match line.delivery {
+        None => send_new_block(line.ticket, out),
+        Some(parts) => send_parts(line.alloc, line.ticket, parts, out),
+    }
+}
+
+/// Sends the label if there is one, and what follows it.
+fn send_from_label<S: Serializer>(line: &WaitingLine<'_>, out: &mut S) -> Result<(), S::Error>
+    ensures { OnOk result (SendsMembers (label_before line.now.label.now
+        (delivery_members line.now.ticket (option_map parts_delivered line.now.delivery)))
+        (S.written out.old) (S.written out.new)) }
+{
+    if line.label.is_empty() {
+        return send_delivery(line, out);
+    }
     send_text_at("label", line.label, out)?;
     send_delivery(line, out)
 }
 
-fn send_delivered<S: Serializer>(line: &DeliveredLine<'_>, out: &mut S) -> Result<(), S::Error>
-    ensures { OnOk result (SendsValue (waiting_data line.now.ticket line.now.text.now line.now.label.now (Some (record {
-      reads = line.now.reads.now;
-      verdict = line.now.verdict.now;
-      stale = line.now.stale;
-    })))
+/// Sends why the block is stale, and what follows it.
+fn send_cause<S: Serializer>(
+    cause: &KeptCause,
+    line: &WaitingLine<'_>,
+    out: &mut S,
+) -> Result<(), S::Error>
+    ensures { OnOk result (SendsMembers (members_after_text line.now.ticket (Some cause.now) line.now.label.now
+        (option_map parts_delivered line.now.delivery))
         (S.written out.old) (S.written out.new)) }
 {
-    if line.label.is_empty() {
-        send_unlabelled(line, out)
-    } else {
-        send_with_label(line, out)
-    }
+    send_number_at("cause", cause.finish, out)?;
+    send_pairs_at("changed", cause.left.as_slice(), out)?;
+    send_from_label(line, out)
 }
 
-impl Described for DeliveredLine<'_> {
-    ghost use Rattle.serde_json.specs.Events.{SendsValue};
-    ghost use Rattle.std.specs.Prelude.{Some};
-    ghost use Rattle.stm_event_lines.specs.CheckpointLines.{waiting_data};
-
-    ghost writes = { λ line. SendsValue (waiting_data line.ticket line.text.now line.label.now (Some (record {
-      reads = line.reads.now;
-      verdict = line.verdict.now;
-      stale = line.stale;
-    }))) };
-}
-
-impl Serialize for DeliveredLine<'_> {
-    fn serialize<S: Serializer>(&self, out: &mut S) -> Result<(), S::Error> {
-        send_delivered(self, out)
-    }
-}
-
-/// The line of a block to which something was delivered.
-pub fn delivered_block_text(
-    alloc: Global,
-    ticket: u32,
-    text: &str,
-    label: &str,
-    reads: &[(u32, Value)],
-    verdict: &SharedVerdict,
-    stale: bool,
-) -> Result<String, NoMemory>
-    ensures { IfOk result (λ s. string_bytes s
-        ≡ waiting_line ticket text.now label.now (Some (record { reads = reads.now; verdict = verdict.now; stale = stale }))) }
+/// Sends why the block is stale if that is known, and what follows it.
+fn send_from_cause<S: Serializer>(line: &WaitingLine<'_>, out: &mut S) -> Result<(), S::Error>
+    ensures { OnOk result (SendsMembers (members_after_text line.now.ticket (option_copied line.now.cause) line.now.label.now
+        (option_map parts_delivered line.now.delivery))
+        (S.written out.old) (S.written out.new)) }
 {
-    let line = DeliveredLine {
-        alloc,
-        ticket,
-        text,
-        label,
-        reads,
-        verdict,
-        stale,
-    };
-    match to_string(alloc, &line) {
+    match line.cause {
+        None => send_from_label(line, out),
+        Some(cause) => send_cause(cause, line, out),
+    }
+}
+
+/// How many members are sent of a cause, if there is one.
+fn cause_count(cause: Option<&KeptCause>) -> usize
+    ensures count { (more : Members) → members_len (cause_before (option_copied cause.entry) more) ≡ result + members_len more }
+    ensures few { result ≤ 2 }
+{
+    match cause {
+        None => 0,
+        Some(_) => 2,
+    }
+}
+
+/// How many members are sent of a label.
+fn label_count(label: &str) -> usize
+    ensures count { (more : Members) → members_len (label_before label.now more) ≡ result + members_len more }
+    ensures few { result ≤ 1 }
+{
+    if label.is_empty() { 0 } else { 1 }
+}
+
+/// How many members are sent of the ticket and of what the last delivery brought.
+fn delivery_count(delivery: Option<DeliveredParts<'_>>) -> usize
+    ensures count { (ticket : ℕ) → members_len (delivery_members ticket (option_map parts_delivered delivery.entry)) ≡ result }
+    ensures few { result ≤ 4 }
+{
+    match delivery {
+        None => 1,
+        Some(_) => 4,
+    }
+}
+
+fn send_line<S: Serializer>(line: &WaitingLine<'_>, out: &mut S) -> Result<(), S::Error>
+    ensures { OnOk result (SendsValue (given_data line.now) (S.written out.old) (S.written out.new)) }
+{
+    let cause = cause_count(line.cause);
+    let label = label_count(line.label);
+    let delivery = delivery_count(line.delivery);
+    out.begin_map(Some(1 + (cause + (label + delivery))))?;
+    send_text_at("block", line.text, out)?;
+    send_from_cause(line, out)
+}
+
+impl Described for WaitingLine<'_> {
+    ghost use Rattle.serde_json.specs.Events.{SendsValue};
+    ghost use Rattle.stm_event_lines.specs.CheckpointLines.{given_data};
+
+    ghost writes = { λ line. SendsValue (given_data line) };
+}
+
+impl Serialize for WaitingLine<'_> {
+    fn serialize<S: Serializer>(&self, out: &mut S) -> Result<(), S::Error> {
+        send_line(self, out)
+    }
+}
+
+/// The line of a waiting block.
+pub fn waiting_line_text(line: &WaitingLine<'_>) -> Result<String, NoMemory>
+    ensures { IfOk result (λ s. string_bytes s ≡ waiting_line line.now.ticket line.now.text.now (option_copied line.now.cause)
+        line.now.label.now (option_map parts_delivered line.now.delivery)) }
+{
+    match to_string(line.alloc, line) {
         Ok(text) => Ok(text),
         Err(_) => Err(NoMemory),
     }
@@ -551,6 +580,37 @@ fn label_at(alloc: Global, json: &Json) -> Result<Option<SharedName>, NoMemory>
     }
 }
 
+/// Why the block is stale: the finish, and what it left.
+fn cause_in(alloc: Global, json: &Json) -> Result<Option<KeptCause>, NoMemory>
+    ensures value { IfOk result (λ o. o ≡ cause_in (view json.now)) }
+    ensures fits { IfOk result (λ o. FitsCause o) }
+{
+    let Some(finish) = number_at(json, "cause") else {
+        return Ok(None);
+    };
+    match writes_at(alloc, json, "changed")? {
+        Some(left) => Ok(Some(KeptCause {
+            finish,
+            left: Writes::from_vec(left),
+        })),
+        None => Ok(None),
+    }
+}
+
+/// Why the block is stale, or that this isn't known.
+fn cause_at(alloc: Global, json: &Json) -> Result<Option<Option<KeptCause>>, NoMemory>
+    ensures value { IfOk result (λ o. o ≡ cause_field (view json.now)) }
+    ensures fits { IfOk result (λ o. IfSome o (λ c. FitsCause c)) }
+{
+    if json.get("cause").is_none() {
+        return Ok(Some(None));
+    }
+    match cause_in(alloc, json)? {
+        Some(cause) => Ok(Some(Some(cause))),
+        None => Ok(None),
+    }
+}
+
 /// The waiting block that the value represents, if it does.
 pub(crate) fn waiting_of(
     alloc: Global,
@@ -559,12 +619,15 @@ pub(crate) fn waiting_of(
 ) -> Result<Option<WaitingBlock>, NoMemory>
     ensures value { IfOk result (λ o. o ≡ waiting_meant known.now (view json.now)) }
     ensures fits { IfOk result (λ o. IfSome o (λ w.
-        FitsWaiting known.now w.ticket w.block w.label w.delivery)) }
+        FitsWaiting known.now w.ticket w.block w.cause w.label w.delivery)) }
 {
     let Some(ticket) = number_at(json, "ticket") else {
         return Ok(None);
     };
     let Some(block) = block_at(alloc, known, json)? else {
+        return Ok(None);
+    };
+    let Some(cause) = cause_at(alloc, json)? else {
         return Ok(None);
     };
     let Some(label) = label_at(alloc, json)? else {
@@ -574,6 +637,7 @@ pub(crate) fn waiting_of(
         Some(delivery) => Ok(Some(WaitingBlock {
             ticket,
             block,
+            cause,
             label,
             delivery,
         })),
@@ -581,25 +645,33 @@ pub(crate) fn waiting_of(
     }
 }
 
-/// The line of a waiting block.
+/// What a delivery brought, if there was one.
+fn parts_of(delivery: Option<&Delivery>) -> Option<DeliveredParts<'_>>
+    ensures { option_map parts_delivered result ≡ option_copied delivery.entry }
+{
+    match delivery {
+        None => None,
+        Some(delivery) => Some(DeliveredParts {
+            reads: delivery.reads(),
+            verdict: delivery.verdict(),
+            stale: delivery.is_stale(),
+        }),
+    }
+}
+
+/// The line of a waiting block that was read.
 pub fn waiting_text(alloc: Global, waiting: &WaitingBlock) -> Result<String, NoMemory>
     ensures { IfOk result (λ s. string_bytes s
-        ≡ waiting_line waiting.now.ticket waiting.now.block.text waiting.now.label waiting.now.delivery) }
+        ≡ waiting_line waiting.now.ticket waiting.now.block.text waiting.now.cause waiting.now.label waiting.now.delivery) }
 {
-    let text = waiting.block.block().text();
-    let label = waiting.label.as_str();
-    match &waiting.delivery {
-        None => new_block_text(alloc, waiting.ticket, text, label),
-        Some(delivery) => delivered_block_text(
-            alloc,
-            waiting.ticket,
-            text,
-            label,
-            delivery.reads(),
-            delivery.verdict(),
-            delivery.is_stale(),
-        ),
-    }
+    waiting_line_text(&WaitingLine {
+        alloc,
+        ticket: waiting.ticket,
+        text: waiting.block.block().text(),
+        cause: waiting.cause.as_ref(),
+        label: waiting.label.as_str(),
+        delivery: parts_of(waiting.delivery.as_ref()),
+    })
 }
 
 /// The waiting block that the value represents, if the line is that block's.
@@ -609,12 +681,12 @@ fn waiting_in(
     json: &Json,
     line: &[u8],
 ) -> Result<WaitingBlock, LineError>
-    ensures ok { IfOk result (λ w. waiting_line w.ticket w.block.text w.label w.delivery ≡ line.now) }
-    ensures fits { IfOk result (λ w. FitsWaiting known.now w.ticket w.block w.label w.delivery) }
-    ensures bad { IsErrOf result LineError.Bad → (ticket : ℕ) (block : Block) (label : List ℕ) (d : Option Delivered)
+    ensures ok { IfOk result (λ w. waiting_line w.ticket w.block.text w.cause w.label w.delivery ≡ line.now) }
+    ensures fits { IfOk result (λ w. FitsWaiting known.now w.ticket w.block w.cause w.label w.delivery) }
+    ensures bad { IsErrOf result LineError.Bad → (ticket : ℕ) (block : Block) (cause : Option AnyCause) (label : List ℕ) (d : Option Delivered)
         → waiting_meant known.now (view json.now)
-        ≡ Some (record { ticket = ticket; block = block; label = label; delivery = d })
-        → waiting_line ticket block.text label d ≢ line.now }
+        ≡ Some (record { ticket = ticket; block = block; cause = cause; label = label; delivery = d })
+        → waiting_line ticket block.text cause label d ≢ line.now }
 {
     let Some(waiting) = waiting_of(alloc, known, json)? else {
         return Err(LineError::Bad);
@@ -629,10 +701,10 @@ fn waiting_in(
 
 /// Reads the line of a waiting block, exactly where it is one whose text is a block over the names.
 pub fn read_waiting(alloc: Global, known: &Names, line: &[u8]) -> Result<WaitingBlock, LineError>
-    ensures ok { IfOk result (λ w. waiting_line w.ticket w.block.text w.label w.delivery ≡ line.now) }
-    ensures fits { IfOk result (λ w. FitsWaiting known.now w.ticket w.block w.label w.delivery) }
-    ensures bad { IsErrOf result LineError.Bad → (ticket : ℕ) (block : Block) (label : List ℕ) (d : Option Delivered)
-        → FitsWaiting known.now ticket block label d → waiting_line ticket block.text label d ≢ line.now }
+    ensures ok { IfOk result (λ w. waiting_line w.ticket w.block.text w.cause w.label w.delivery ≡ line.now) }
+    ensures fits { IfOk result (λ w. FitsWaiting known.now w.ticket w.block w.cause w.label w.delivery) }
+    ensures bad { IsErrOf result LineError.Bad → (ticket : ℕ) (block : Block) (cause : Option AnyCause) (label : List ℕ) (d : Option Delivered)
+        → FitsWaiting known.now ticket block cause label d → waiting_line ticket block.text cause label d ≢ line.now }
 {
     match json_of(alloc, line) {
         Ok(json) => waiting_in(alloc, known, &json, line),

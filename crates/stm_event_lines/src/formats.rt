@@ -16,11 +16,12 @@ pub const FIRST_FORMAT: u32 = 1;
 /// block.
 pub const LATEST_FORMAT: u32 = 3;
 
-/// The format of histories that begin from a checkpoint, if no variable is declared late, none was before the checkpoint, and no block
-/// is labelled.
+/// The format of histories that begin from a checkpoint, if no variable is declared late, none was before the checkpoint, no block is
+/// labelled, and of no block in the checkpoint it is known why it is stale.
 pub const CHECKPOINT_FORMAT: u32 = 4;
 
-/// The format of histories in which a variable is declared late, or was before their checkpoint, or a block is labelled.
+/// The format of histories in which a variable is declared late, or was before their checkpoint, or a block is labelled, or of a block in
+/// the checkpoint it is known why it is stale.
 pub const DECLARING_FORMAT: u32 = 5;
 
 /// Whether histories of the format that begin with the first values of their variables are read.

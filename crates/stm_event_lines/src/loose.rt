@@ -6,6 +6,7 @@ ghost use Rattle.serde_json.specs.View.{view};
 ghost use Rattle.stm_check.specs.TypedBlock.{Block};
 ghost use Rattle.stm_events.specs.declared.event.Event.{Event as AnyEvent};
 ghost use Rattle.stm_events.specs.Delivered.{Delivered};
+ghost use Rattle.stm_events.specs.declared.kept_cause.KeptCause.{KeptCause as AnyCause};
 ghost use Rattle.stm_store.specs.declared.cell.Cell.{Cell as AnyCell};
 ghost use Rattle.stm_terms.specs.Limits.{most_refs};
 ghost use Rattle.stm_event_lines.specs.CheckpointFields.{cell_of as cell_meant, cell_parts, checkpoint_header_in};
@@ -187,10 +188,10 @@ pub fn loose_waiting(
     line: &[u8],
 ) -> Result<Option<WaitingBlock>, NoMemory>
     ensures fits { IfOk result (λ o. IfSome o (λ w.
-        FitsWaiting known.now w.ticket w.block w.label w.delivery)) }
-    ensures same { IfOk result (λ o. (ticket : ℕ) (block : Block) (label : List ℕ) (d : Option Delivered)
-        → FitsWaiting known.now ticket block label d → waiting_line ticket block.text label d ≡ line.now
-        → o ≡ Some (record { ticket = ticket; block = block; label = label; delivery = d })) }
+        FitsWaiting known.now w.ticket w.block w.cause w.label w.delivery)) }
+    ensures same { IfOk result (λ o. (ticket : ℕ) (block : Block) (cause : Option AnyCause) (label : List ℕ) (d : Option Delivered)
+        → FitsWaiting known.now ticket block cause label d → waiting_line ticket block.text cause label d ≡ line.now
+        → o ≡ Some (record { ticket = ticket; block = block; cause = cause; label = label; delivery = d })) }
 {
     match json_of(alloc, line) {
         Ok(json) => waiting_of(alloc, known, &json),

@@ -2,19 +2,20 @@
 //! contract says that they succeed.
 
 use crate::checkpoint::{
-    cell_text, checkpoint_header_text, delivered_block_text, new_block_text, read_cell,
-    read_checkpoint_header, read_waiting,
+    DeliveredParts, WaitingLine, cell_text, checkpoint_header_text, read_cell,
+    read_checkpoint_header, read_waiting, waiting_line_text,
 };
 use crate::read::LineError;
 use std::alloc::Global;
 use std::test::Fail;
+use stm_events::kept_cause::KeptCause;
 use stm_events::shared_verdict::SharedVerdict;
 use stm_store::{Cell, Names, Table};
-use stm_terms::is_name;
 use stm_terms::kinds::{Base, Ty};
 use stm_terms::lists::{News, Writes};
 use stm_terms::values::{Fault, Ref, Value};
 use stm_terms::verdicts::Verdict;
+use stm_terms::{NoMemory, is_name};
 
 const HEADER: &str = "{\"format\":4,\"next\":9,\"vars\":2,\"waiting\":0}";
 
@@ -40,6 +41,21 @@ const OVERFLOWS: &str =
 
 const BLOCKS: &str =
     "{\"block\":\"retry\",\"label\":\"two\\\"s\",\"reads\":[[0,5],[1,{\"old\":0}]],\"stale\":true,\"ticket\":1,\"verdict\":\"blocks\"}";
+
+const CAUSED: &str =
+    "{\"block\":\"readTVar x\",\"cause\":6,\"changed\":[[0,4]],\"reads\":[[0,5]],\"stale\":true,\"ticket\":7,\"verdict\":\"blocks\"}";
+
+const CAUSED_AND_LABELLED: &str =
+    "{\"block\":\"retry\",\"cause\":4294967295,\"changed\":[[0,true],[1,{\"old\":1}]],\"label\":\"job7\",\"reads\":[[0,5],[1,{\"old\":0}]],\"stale\":true,\"ticket\":1,\"verdict\":\"blocks\"}";
+
+/// Lines that are read, but that no checkpoint has: a cause of a new block, of one that isn't stale, and one that changed nothing.
+const CAUSED_NEW: &str = "{\"block\":\"readTVar x\",\"cause\":6,\"changed\":[[0,4]],\"ticket\":7}";
+
+const CAUSED_FRESH: &str =
+    "{\"block\":\"readTVar x\",\"cause\":6,\"changed\":[[0,4]],\"reads\":[[0,5]],\"stale\":false,\"ticket\":7,\"verdict\":\"blocks\"}";
+
+const CAUSED_BY_NOTHING: &str =
+    "{\"block\":\"readTVar x\",\"cause\":0,\"changed\":[],\"label\":\"job7\",\"ticket\":7}";
 
 #[test]
 fn headers_and_variables_are_written(rt: HostRuntime) -> Result<(), Fail> {
@@ -76,6 +92,38 @@ fn headers_and_variables_are_written(rt: HostRuntime) -> Result<(), Fail> {
     Ok(())
 }
 
+/// The line of a waiting block.
+fn text_of(
+    alloc: Global,
+    ticket: u32,
+    text: &str,
+    cause: Option<&KeptCause>,
+    label: &str,
+    delivery: Option<DeliveredParts<'_>>,
+) -> Result<String, NoMemory> {
+    waiting_line_text(&WaitingLine {
+        alloc,
+        ticket,
+        text,
+        cause,
+        label,
+        delivery,
+    })
+}
+
+/// What a delivery brought.
+fn brought<'a>(
+    reads: &'a [(u32, Value)],
+    verdict: &'a SharedVerdict,
+    stale: bool,
+) -> Option<DeliveredParts<'a>> {
+    Some(DeliveredParts {
+        reads,
+        verdict,
+        stale,
+    })
+}
+
 #[test]
 fn waiting_blocks_are_written(rt: HostRuntime) -> Result<(), Fail> {
     let alloc = rt.alloc();
@@ -94,26 +142,121 @@ fn waiting_blocks_are_written(rt: HostRuntime) -> Result<(), Fail> {
     let blocks = SharedVerdict::new(alloc, Verdict::Blocks)?;
     let read = [(0, Value::Int(5))];
     let two = [(0, Value::Int(5)), (1, Value::Var(Ref::Old(0)))];
-    assert_eq!(rt; new_block_text(alloc, 7, "readTVar x", "")?.as_str(), NEW);
     assert_eq!(rt;
-        new_block_text(alloc, 7, "readTVar x", "job7")?.as_str(),
+        text_of(alloc, 7, "readTVar x", None, "", None)?.as_str(),
+        NEW
+    );
+    assert_eq!(rt;
+        text_of(alloc, 7, "readTVar x", None, "job7", None)?.as_str(),
         LABELLED
     );
     assert_eq!(rt;
-        delivered_block_text(alloc, 7, "readTVar x", "", &read, &commits, false)?.as_str(),
+        text_of(
+            alloc,
+            7,
+            "readTVar x",
+            None,
+            "",
+            brought(&read, &commits, false)
+        )?
+        .as_str(),
         COMMITS
     );
     assert_eq!(rt;
-        delivered_block_text(alloc, 8, "throw 3", "", &[], &throws, true)?.as_str(),
+        text_of(alloc, 8, "throw 3", None, "", brought(&[], &throws, true))?.as_str(),
         THROWS
     );
     assert_eq!(rt;
-        delivered_block_text(alloc, 8, "throw 3", "", &[], &overflows, false)?.as_str(),
+        text_of(
+            alloc,
+            8,
+            "throw 3",
+            None,
+            "",
+            brought(&[], &overflows, false)
+        )?
+        .as_str(),
         OVERFLOWS
     );
     assert_eq!(rt;
-        delivered_block_text(alloc, 1, "retry", "two\"s", &two, &blocks, true)?.as_str(),
+        text_of(
+            alloc,
+            1,
+            "retry",
+            None,
+            "two\"s",
+            brought(&two, &blocks, true)
+        )?
+        .as_str(),
         BLOCKS
+    );
+    Ok(())
+}
+
+#[test]
+fn causes_are_written(rt: HostRuntime) -> Result<(), Fail> {
+    let alloc = rt.alloc();
+    let blocks = SharedVerdict::new(alloc, Verdict::Blocks)?;
+    let read = [(0, Value::Int(5))];
+    let two = [(0, Value::Int(5)), (1, Value::Var(Ref::Old(0)))];
+    let one = KeptCause {
+        finish: 6,
+        left: Writes::from_vec(vec![in alloc; (0, Value::Int(4))]?),
+    };
+    let last = KeptCause {
+        finish: u32::MAX,
+        left: Writes::from_vec(vec![in alloc;
+            (0, Value::Bool(true)),
+            (1, Value::Var(Ref::Old(1))),
+        ]?),
+    };
+    let none = KeptCause {
+        finish: 0,
+        left: Writes::from_vec(Vec::new(alloc)),
+    };
+    assert_eq!(rt;
+        text_of(
+            alloc,
+            7,
+            "readTVar x",
+            Some(&one),
+            "",
+            brought(&read, &blocks, true)
+        )?
+        .as_str(),
+        CAUSED
+    );
+    assert_eq!(rt;
+        text_of(
+            alloc,
+            1,
+            "retry",
+            Some(&last),
+            "job7",
+            brought(&two, &blocks, true)
+        )?
+        .as_str(),
+        CAUSED_AND_LABELLED
+    );
+    assert_eq!(rt;
+        text_of(alloc, 7, "readTVar x", Some(&one), "", None)?.as_str(),
+        CAUSED_NEW
+    );
+    assert_eq!(rt;
+        text_of(
+            alloc,
+            7,
+            "readTVar x",
+            Some(&one),
+            "",
+            brought(&read, &blocks, false)
+        )?
+        .as_str(),
+        CAUSED_FRESH
+    );
+    assert_eq!(rt;
+        text_of(alloc, 7, "readTVar x", Some(&none), "job7", None)?.as_str(),
+        CAUSED_BY_NOTHING
     );
     Ok(())
 }
@@ -171,6 +314,15 @@ fn own_lines_are_read(rt: HostRuntime) -> Result<(), Fail> {
     for line in [NEW, LABELLED, COMMITS, THROWS, OVERFLOWS, BLOCKS] {
         assert!(rt; is_waiting(alloc, &known, line)?, "{line}");
     }
+    for line in [
+        CAUSED,
+        CAUSED_AND_LABELLED,
+        CAUSED_NEW,
+        CAUSED_FRESH,
+        CAUSED_BY_NOTHING,
+    ] {
+        assert!(rt; is_waiting(alloc, &known, line)?, "{line}");
+    }
     Ok(())
 }
 
@@ -200,8 +352,9 @@ const NO_CELLS: [&str; 8] = [
 ];
 
 /// No waiting blocks: another order, a blank, a leading zero, a read of three items, no verdict beside reads, a fault in the block,
-/// a variable that isn't among the names, a second verdict, a truth value that is a number, labels that are none.
-const NO_WAITING: [&str; 12] = [
+/// a variable that isn't among the names, a second verdict, a truth value that is a number, labels that are none, a cause
+/// without what it changed, what changed without a cause, a cause after the label, one that is a list, a change of one item.
+const NO_WAITING: [&str; 17] = [
     "{\"ticket\":7,\"block\":\"readTVar x\"}",
     "{\"block\":\"readTVar x\",\"ticket\": 7}",
     "{\"block\":\"readTVar x\",\"ticket\":07}",
@@ -214,6 +367,11 @@ const NO_WAITING: [&str; 12] = [
     "{\"block\":\"readTVar x\",\"label\":\"\",\"ticket\":7}",
     "{\"block\":\"readTVar x\",\"label\":\"-\",\"ticket\":7}",
     "{\"block\":\"readTVar x\",\"label\":\"a b\",\"ticket\":7}",
+    "{\"block\":\"readTVar x\",\"cause\":6,\"ticket\":7}",
+    "{\"block\":\"readTVar x\",\"changed\":[[0,4]],\"ticket\":7}",
+    "{\"block\":\"readTVar x\",\"label\":\"job7\",\"cause\":6,\"changed\":[[0,4]],\"ticket\":7}",
+    "{\"block\":\"readTVar x\",\"cause\":[6],\"changed\":[[0,4]],\"ticket\":7}",
+    "{\"block\":\"readTVar x\",\"cause\":6,\"changed\":[[0]],\"ticket\":7}",
 ];
 
 #[test]

@@ -11,7 +11,7 @@ use Rattle.stm_event_lines.proofs.Checkpoints.{waiting_one_line}
 use Rattle.stm_history.specs.Checking.{AreCells, MayBeNamed, MayTakeBlock, MayTakeCell}
 use Rattle.stm_history.specs.HistoryText.{block_line, block_lines, cell_lines, cell_lines_from}
 use Rattle.stm_history.specs.Judgement.{FitBlocks, FitCells, HaveShortLines, IsReadable, IsShort}
-use Rattle.stm_history.specs.Starts.{are_unlabelled, delivery_of_block, is_unlabelled}
+use Rattle.stm_history.specs.Starts.{are_plain_blocks, delivery_of_block, is_plain_block}
 use Rattle.stm_history.proofs.CellNames.{Ascend, below, common_cells, fits_name, named_fits, next_named, numbered_after}
 use Rattle.stm_history.proofs.CutsAtLineFeeds.{cut_unique, no_feed}
 use Rattle.stm_history.proofs.OneReading.{AreMarked, cells_of, marked_from, same_block}
@@ -85,7 +85,7 @@ common_blocks T [] cs a b f g m n l e = record { blocks = cs; whole = refl; rest
 common_blocks T (x ∷ bs) [] a b f g m n l e = absurd (omega (arith, l))
 common_blocks T (x ∷ bs) (y ∷ cs) a b f g m n l e =
     let cut = cut_unique (block_line x) (block_lines bs ++ a) (block_line y) (block_lines cs ++ b)
-    (no_feed _ (waiting_one_line T x.ticket x.waiting.block x.label (delivery_of_block x) f.0)) (no_feed _ (waiting_one_line T y.ticket y.waiting.block y.label (delivery_of_block y) g.0))
+    (no_feed _ (waiting_one_line T x.ticket x.waiting.block x.cause x.label (delivery_of_block x) f.0)) (no_feed _ (waiting_one_line T y.ticket y.waiting.block y.cause y.label (delivery_of_block y) g.0))
     (sym (append_assoc (block_line x) (10 ∷ block_lines bs) a) ∙ e ∙ append_assoc (block_line y) (10 ∷ block_lines cs) b) in
     let first : x ≡ y = same_block T x y f.0 g.0 m.0 n.0 cut.line in
     let r = common_blocks T bs cs a b f.1 g.1 m.1 n.1 (omega (arith, l)) cut.rest in
@@ -108,7 +108,7 @@ later_blocks : (T : List Named) (bs more : List CheckpointBlock) → FitBlocks T
 later_blocks T [] more f = f
 later_blocks T (b ∷ bs) more f = later_blocks T bs more f.1
 
--- each of blocks that have no labels has none
+-- each of blocks that can stand in format 4 can
 both_first : (x y : Bool) → (x && y) ≡ true → x ≡ true
 both_first true y e = refl
 both_first false y e = e
@@ -117,9 +117,9 @@ both_second : (x y : Bool) → (x && y) ≡ true → y ≡ true
 both_second true y e = e
 both_second false y e = cc
 
-unlabelled_at : (bs more : List CheckpointBlock) (b : CheckpointBlock) → are_unlabelled (bs ++ b ∷ more) ≡ true → is_unlabelled b.label ≡ true
-unlabelled_at [] more b e = both_first (is_unlabelled b.label) (are_unlabelled more) e
-unlabelled_at (x ∷ bs) more b e = unlabelled_at bs more b (both_second (is_unlabelled x.label) (are_unlabelled (bs ++ b ∷ more)) e)
+plain_at : (bs more : List CheckpointBlock) (b : CheckpointBlock) → are_plain_blocks (bs ++ b ∷ more) ≡ true → is_plain_block b.cause b.label ≡ true
+plain_at [] more b e = both_first (is_plain_block b.cause b.label) (are_plain_blocks more) e
+plain_at (x ∷ bs) more b e = plain_at bs more b (both_second (is_plain_block x.cause x.label) (are_plain_blocks (bs ++ b ∷ more)) e)
 
 later_short : (bs more : List CheckpointBlock) → HaveShortLines (bs ++ more) → HaveShortLines more
 later_short [] more f = f
@@ -133,12 +133,12 @@ fewer_blocks c more b k =
     let m = length-append c.blocks (b ∷ []) in
     record { begun = k.begun; tickets = k.tickets; store = k.store; named = k.named; few = omega (arith, few, l, m); blocks = first_blocks c.store c.next 0 c.blocks more b k.blocks }
 
-block_by : (format : ℕ) (c : CheckpointView) (blocks : List CheckpointBlock) (a b : List ℕ) → (format ≡ checkpoint_format → are_unlabelled (c.blocks ++ blocks) ≡ true) → IsCheckpoint (record c { blocks = c.blocks ++ blocks }) → FitBlocks c.names (c.blocks ++ blocks) → HaveShortLines (c.blocks ++ blocks)
+block_by : (format : ℕ) (c : CheckpointView) (blocks : List CheckpointBlock) (a b : List ℕ) → (format ≡ checkpoint_format → are_plain_blocks (c.blocks ++ blocks) ≡ true) → IsCheckpoint (record c { blocks = c.blocks ++ blocks }) → FitBlocks c.names (c.blocks ++ blocks) → HaveShortLines (c.blocks ++ blocks)
     → 0 < length blocks → a ≡ block_lines blocks ++ b → NextBlock format c a
 block_by format c [] a b u k f s l e = absurd (omega (arith, l))
 block_by format c (x ∷ blocks) a b u k f s l e = record {
   block = x;
-  may = ((later_blocks c.names c.blocks (x ∷ blocks) f).0, fewer_blocks c blocks x k, λ is. unlabelled_at c.blocks blocks x (u is));
+  may = ((later_blocks c.names c.blocks (x ∷ blocks) f).0, fewer_blocks c blocks x k, λ is. plain_at c.blocks blocks x (u is));
   short = (later_short c.blocks (x ∷ blocks) s).0;
   more = block_lines blocks ++ b;
   rest = e ∙ append_assoc (block_line x) (10 ∷ block_lines blocks) b;
@@ -154,4 +154,4 @@ next_block format c d a b r s stores names nexts l e =
     let whole : d.blocks ≡ c.blocks ++ g.blocks = g.whole in
     let same : d ≡ record c { blocks = c.blocks ++ g.blocks } = λ i. record { store = (sym stores) i; names = (sym names) i; next = (sym nexts) i; blocks = whole i } in
     let long = ap (λ (z : List CheckpointBlock). length z) whole ∙ length-append c.blocks g.blocks in
-    block_by format c g.blocks a b (λ is. ap are_unlabelled (sym whole) ∙ s.unlabelled is) (subst IsCheckpoint same k) (subst (FitBlocks c.names) whole fits) (subst HaveShortLines whole s.short) (omega (arith, l, long)) g.rest
+    block_by format c g.blocks a b (λ is. ap are_plain_blocks (sym whole) ∙ s.plain is) (subst IsCheckpoint same k) (subst (FitBlocks c.names) whole fits) (subst HaveShortLines whole s.short) (omega (arith, l, long)) g.rest

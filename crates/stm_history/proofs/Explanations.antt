@@ -9,6 +9,7 @@ use Rattle.stm_events.specs.declared.event.Event.{Event}
 use Rattle.stm_events.specs.declared.event.What.{What}
 use Rattle.stm_events.specs.declared.event.What.TheVariants.{Submitted, Installed, Finished, Cancelled, Declared as DeclaredLate, Labelled}
 use Rattle.stm_events.specs.Delivered.{Delivered}
+use Rattle.stm_events.specs.declared.kept_cause.KeptCause.{KeptCause}
 use Rattle.stm_events.specs.SlowDesk.{max_clients}
 use Rattle.stm_machine.specs.Checkpoints.{CheckpointView, MayAdd, checkpoint_block}
 use Rattle.stm_machine.specs.Machine.{event}
@@ -16,7 +17,7 @@ use Rattle.stm_history.specs.declared.files.check.Stage.TheVariants.{Running}
 use Rattle.stm_history.specs.declared.files.replayer.Replayer.{Replayer}
 use Rattle.stm_history.specs.Following.{Follows}
 use Rattle.stm_history.specs.Stages.{IsStage}
-use Rattle.stm_history.specs.Starts.{Start, delivery_of_block, is_unlabelled, names_after}
+use Rattle.stm_history.specs.Starts.{Start, delivery_of_block, is_plain_block, names_after}
 use Rattle.stm_history.specs.declared.files.expecting.Expectation.{Expectation}
 use Rattle.stm_history.specs.declared.files.expecting.Expectation.TheVariants.{Due}
 use Rattle.stm_history.specs.declared.files.explanation.Explanation.{Explanation}
@@ -56,19 +57,19 @@ cell_head (Ok x) format vars names cells name c may h = λ next waiting.
 cell_head (Err e) format vars names cells name c may h = tt
 
 -- what was delivered to a block is what its checkpoint has
-delivery_kept : (t : ℕ) (b : Block) (label : List ℕ) (d : Option Delivered) → delivery_of_block (checkpoint_block t b d label) ≡ d
-delivery_kept t b label None = refl
-delivery_kept t b label (Some d) = refl
+delivery_kept : (t : ℕ) (b : Block) (w : Option KeptCause) (label : List ℕ) (d : Option Delivered) → delivery_of_block (checkpoint_block t b d w label) ≡ d
+delivery_kept t b w label None = refl
+delivery_kept t b w label (Some d) = refl
 
 -- the line of a waiting block that may be added
-pub block_head : (format waiting : ℕ) (c : CheckpointView) (t : ℕ) (b : Block) (label : List ℕ) (d : Option Delivered) (x : Explanation) → FitsWaiting c.names t b label d → MayAdd c (checkpoint_block t b d label)
-    → (format ≡ checkpoint_format → is_unlabelled label ≡ true) → IsShortOr (waiting_line t b.text label d) x
+pub block_head : (format waiting : ℕ) (c : CheckpointView) (t : ℕ) (b : Block) (w : Option KeptCause) (label : List ℕ) (d : Option Delivered) (x : Explanation) → FitsWaiting c.names t b w label d → MayAdd c (checkpoint_block t b d w label)
+    → (format ≡ checkpoint_format → is_plain_block w label ≡ true) → IsShortOr (waiting_line t b.text w label d) x
     → ExplainsHead (at_blocks format waiting c) x
-block_head format waiting c t b label d x fits may free h =
-    let block = checkpoint_block t b d label in
-    let same = delivery_kept t b label d in
-    head_line (at_blocks format waiting c) (waiting_line t b.text label d) x
-    (with_blocks format waiting (record c { blocks = c.blocks ++ block ∷ [] }), (block, ap (waiting_line t b.text label) same, (subst (FitsWaiting c.names t b label) (sym same) fits, may, free), refl)) h
+block_head format waiting c t b w label d x fits may free h =
+    let block = checkpoint_block t b d w label in
+    let same = delivery_kept t b w label d in
+    head_line (at_blocks format waiting c) (waiting_line t b.text w label d) x
+    (with_blocks format waiting (record c { blocks = c.blocks ++ block ∷ [] }), (block, ap (waiting_line t b.text w label) same, (subst (FitsWaiting c.names t b w label) (sym same) fits, may, free), refl)) h
 
 -- what is reported at a progress, whatever it is called
 pub explained_at : {E : Type 0} (o : Result Explanation E) (P : Explanation → Type 0) (q : CheckerState) (line : List ℕ) → IfOk o P → ((x : Explanation) → P x → Explains q line x) → IfOk o (λ x. (p : CheckerState) → p ≡ q → Explains p line x)

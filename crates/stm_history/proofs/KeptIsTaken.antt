@@ -16,7 +16,7 @@ use Rattle.stm_history.specs.Checking.{NoFeed}
 use Rattle.stm_history.specs.FileLaws.{WhatIsKeptIsTaken, WrittenFormatsFit}
 use Rattle.stm_history.specs.HistoryText.{block_line, block_lines, cell_lines, cell_lines_from, checkpoint_text, event_lines, text_before}
 use Rattle.stm_history.specs.Judgement.{AreEvents, AreShortLines, CheckpointFits, FitBlocks, FitCells, FitsBefore, FormatFits, HaveShortLines, IsBefore, are_short_after, max_line}
-use Rattle.stm_history.specs.Starts.{Start, are_unlabelled, declares, labels_blocks, delivery_of_block, first_state, format_of_start, read_back, table_back}
+use Rattle.stm_history.specs.Starts.{Start, are_plain_blocks, declares, labels_blocks, delivery_of_block, first_state, format_of_start, read_back, table_back}
 use Rattle.stm_history.proofs.CellNames.{fits_name, named_fits}
 use Rattle.stm_history.proofs.CutsAtLineFeeds.{no_feed}
 use Rattle.stm_history.proofs.OneReading.{head_fits}
@@ -65,7 +65,7 @@ after_cells i names (c ∷ cells) rest n f e =
 short_blocks : (names : List Named) (bs : List CheckpointBlock) → FitBlocks names bs → are_short_after 0 (block_lines bs) ≡ true → HaveShortLines bs
 short_blocks names [] f e = tt
 short_blocks names (b ∷ bs) f e =
-    let s = split 0 (block_line b) (block_lines bs) (no_feed (block_line b) (waiting_one_line names b.ticket b.waiting.block b.label (delivery_of_block b) f.0)) e in
+    let s = split 0 (block_line b) (block_lines bs) (no_feed (block_line b) (waiting_one_line names b.ticket b.waiting.block b.cause b.label (delivery_of_block b) f.0)) e in
     (omega (arith, s.short), short_blocks names bs f.1 s.after)
 
 short_checkpoint : (format : ℕ) (c : CheckpointView) → IsCheckpointFormat format → CheckpointFits c → AreShortLines (checkpoint_text format (length c.blocks) c) → HaveShortLines c.blocks
@@ -82,14 +82,14 @@ declaring_of : (o : Option CheckpointView) → FormatFits declaring_format o
 declaring_of None = inr refl
 declaring_of (Some c) = (inr refl, λ e. absurd (omega (arith, e)), λ e. absurd (omega (arith, e)))
 
-checkpoint_of : (c : CheckpointView) (a b : Bool) → is_gapless c.names ≡ a → are_unlabelled c.blocks ≡ b → FormatFits (cond (a && b) checkpoint_format declaring_format) (Some c)
+checkpoint_of : (c : CheckpointView) (a b : Bool) → is_gapless c.names ≡ a → are_plain_blocks c.blocks ≡ b → FormatFits (cond (a && b) checkpoint_format declaring_format) (Some c)
 checkpoint_of c true true d e = (inl refl, λ f. d, λ f. e)
 checkpoint_of c true false d e = declaring_of (Some c)
 checkpoint_of c false b d e = declaring_of (Some c)
 
 start_of : (o : Option CheckpointView) → FormatFits (format_of_start o) o
 start_of None = inl (omega arith, omega arith)
-start_of (Some c) = checkpoint_of c (is_gapless c.names) (are_unlabelled c.blocks) refl refl
+start_of (Some c) = checkpoint_of c (is_gapless c.names) (are_plain_blocks c.blocks) refl refl
 
 format_by : (o : Option CheckpointView) (b : Bool) → FormatFits (cond b declaring_format (format_of_start o)) o
 format_by o true = declaring_of o
@@ -102,7 +102,7 @@ written_fits table o history = format_by o (declares history || labels_blocks hi
 -- ---- the history that is read
 before_back : (format : ℕ) (table : List Declared) (o : Option CheckpointView) → FormatFits format o → FitsBefore table o → AreShortLines (text_before format table o) → IsBefore format (table_back table o) o
 before_back format table None k f e = (k, few_variables table f, f)
-before_back format table (Some c) k f e = (refl, record { is_format = k.0; gapless = k.1; unlabelled = k.2; fits = f; short = short_checkpoint format c k.0 f e })
+before_back format table (Some c) k f e = (refl, record { is_format = k.0; gapless = k.1; plain = k.2; fits = f; short = short_checkpoint format c k.0 f e })
 
 pub what_is_kept_is_taken : WhatIsKeptIsTaken
 what_is_kept_is_taken s history format fits short events legal =

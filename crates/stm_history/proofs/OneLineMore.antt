@@ -16,7 +16,7 @@ use Rattle.stm_event_lines.specs.Lines.{IsFormat, event_line, header_line, varia
 use Rattle.stm_history.specs.HistoryText.{block_line, block_lines, cell_lines, cells_text, checkpoint_text, head_text, history_text, start_text, variable_lines, event_lines}
 use Rattle.stm_history.specs.Judgement.{IsShort, MayDeclare, AreVariables, AreVariablesFrom, AreEvents, FitBlocks, HaveShortLines, IsReadable}
 use Rattle.stm_history.specs.Checking.{CheckerState, at_header, at_variables, at_cells, at_blocks, at_events, with_table, with_blocks, with_cells, with_name_of, AreCells, IsCheckpointHead, LeadsTo, LinesUpTo}
-use Rattle.stm_history.specs.Starts.{are_unlabelled, delivery_of_block, first_state, is_unlabelled}
+use Rattle.stm_history.specs.Starts.{are_plain_blocks, delivery_of_block, first_state, is_plain_block}
 use Rattle.stm_history.proofs.CellNames.{cells_push, lines_push}
 
 pub variable_lines-push : (ds : List Declared) (d : Declared) → variable_lines (ds ++ d ∷ []) ≡ variable_lines ds ++ (variable_line d ++ 10 ∷ [])
@@ -53,7 +53,7 @@ no_cells_yet format = record {
 }
 
 -- ---- the waiting blocks of a checkpoint
-blocks_push : (names : List Named) (bs : List CheckpointBlock) (b : CheckpointBlock) → FitBlocks names bs → FitsWaiting names b.ticket b.waiting.block b.label (delivery_of_block b) → FitBlocks names (bs ++ b ∷ [])
+blocks_push : (names : List Named) (bs : List CheckpointBlock) (b : CheckpointBlock) → FitBlocks names bs → FitsWaiting names b.ticket b.waiting.block b.cause b.label (delivery_of_block b) → FitBlocks names (bs ++ b ∷ [])
 blocks_push names [] b a f = (f, tt)
 blocks_push names (c ∷ bs) b a f = (a.0, blocks_push names bs b a.1 f)
 
@@ -61,10 +61,10 @@ both_true : (x y : Bool) → x ≡ true → y ≡ true → (x && y) ≡ true
 both_true true y e f = f
 both_true false y e f = cc
 
-pub unlabelled_push : (bs : List CheckpointBlock) (b : CheckpointBlock) → are_unlabelled bs ≡ true → is_unlabelled b.label ≡ true → are_unlabelled (bs ++ b ∷ []) ≡ true
-unlabelled_push [] b e f = both_true (is_unlabelled b.label) true f refl
-unlabelled_push (c ∷ bs) b e f = by (is_unlabelled c.label) (are_unlabelled bs) e (λ h. unlabelled_push bs b h f) where
-  by : (x y : Bool) → (x && y) ≡ true → (y ≡ true → are_unlabelled (bs ++ b ∷ []) ≡ true) → (x && are_unlabelled (bs ++ b ∷ [])) ≡ true
+pub plain_push : (bs : List CheckpointBlock) (b : CheckpointBlock) → are_plain_blocks bs ≡ true → is_plain_block b.cause b.label ≡ true → are_plain_blocks (bs ++ b ∷ []) ≡ true
+plain_push [] b e f = both_true (is_plain_block b.cause b.label) true f refl
+plain_push (c ∷ bs) b e f = by (is_plain_block c.cause c.label) (are_plain_blocks bs) e (λ h. plain_push bs b h f) where
+  by : (x y : Bool) → (x && y) ≡ true → (y ≡ true → are_plain_blocks (bs ++ b ∷ []) ≡ true) → (x && are_plain_blocks (bs ++ b ∷ [])) ≡ true
   by true y g k = k g
   by false y g k = cc
 
@@ -109,7 +109,7 @@ pub no_blocks_yet : (format next vars waiting : ℕ) (names : List Named) (cells
 no_blocks_yet format next vars waiting names cells i h a s = record {
   is_format = i;
   gapless = a.gapless;
-  unlabelled = λ is. refl;
+  plain = λ is. refl;
   fits = record {
     checkpoint = record { begun = h.begun; tickets = h.tickets; store = s; named = a.named; few = omega arith; blocks = tt };
     known = a.known;
@@ -174,7 +174,7 @@ block_led format waiting c t text line s k short =
     (record {
       is_format = r.is_format;
       gapless = r.gapless;
-      unlabelled = λ is. unlabelled_push c.blocks b (r.unlabelled is) ((k.2).2 is);
+      plain = λ is. plain_push c.blocks b (r.plain is) ((k.2).2 is);
       fits = record { checkpoint = (k.2).1; known = f.known; cells = f.cells; blocks = blocks_push c.names c.blocks b f.blocks (k.2).0 };
       short = short_push c.blocks b r.short (subst IsShort (sym k.1) short);
     })

@@ -8,6 +8,7 @@ use Rattle.stm_store.specs.Naming.{Named}
 use Rattle.stm_store.specs.Tables.{Declared}
 use Rattle.stm_check.specs.TypedBlock.{Block}
 use Rattle.stm_events.specs.Delivered.{Delivered}
+use Rattle.stm_events.specs.declared.kept_cause.KeptCause.{KeptCause}
 use Rattle.stm_events.specs.declared.event.Event.{Event}
 use Rattle.stm_events.specs.SlowDesk.{LegalFrom, Slow, max_cells, max_events, after, state_from}
 use Rattle.stm_events.specs.States.{IsLegalFrom}
@@ -78,26 +79,26 @@ marked_from store n k (b ∷ bs) h = (marked_by store b.waiting.block b.stale b.
 abbrev brought : Bool → Option Held → Option Delivered
 brought stale held = option_map (λ h. record { reads = h.reads; verdict = h.verdict; stale = stale }) held
 
-same_parts : (t t' : ℕ) (block block' : Block) (label label' : List ℕ) (held held' : Option Held) (stale stale' : Bool) → t ≡ t' → block ≡ block' → label ≡ label' → brought stale held ≡ brought stale' held'
+same_parts : (t t' : ℕ) (block block' : Block) (w w' : Option KeptCause) (label label' : List ℕ) (held held' : Option Held) (stale stale' : Bool) → t ≡ t' → block ≡ block' → w ≡ w' → label ≡ label' → brought stale held ≡ brought stale' held'
     → (held ≡ None → stale ≡ false) → (held' ≡ None → stale' ≡ false)
-    → ◌≡◌ {A = CheckpointBlock} (record { ticket = t; waiting = record { block = block; held = held }; stale = stale; label = label }) (record { ticket = t'; waiting = record { block = block'; held = held' }; stale = stale'; label = label' })
-same_parts t t' block block' label label' None None stale stale' p q u e m n =
+    → ◌≡◌ {A = CheckpointBlock} (record { ticket = t; waiting = record { block = block; held = held }; stale = stale; cause = w; label = label }) (record { ticket = t'; waiting = record { block = block'; held = held' }; stale = stale'; cause = w'; label = label' })
+same_parts t t' block block' w w' label label' None None stale stale' p q v u e m n =
     let z : stale ≡ stale' = m refl ∙ sym (n refl) in
-    λ i. record { ticket = p i; waiting = record { block = q i; held = None }; stale = z i; label = u i }
-same_parts t t' block block' label label' None (Some h) stale stale' p q u e m n = absurd cc
-same_parts t t' block block' label label' (Some h) None stale stale' p q u e m n = absurd cc
-same_parts t t' block block' label label' (Some h) (Some k) stale stale' p q u e m n =
+    λ i. record { ticket = p i; waiting = record { block = q i; held = None }; stale = z i; cause = v i; label = u i }
+same_parts t t' block block' w w' label label' None (Some h) stale stale' p q v u e m n = absurd cc
+same_parts t t' block block' w w' label label' (Some h) None stale stale' p q v u e m n = absurd cc
+same_parts t t' block block' w w' label label' (Some h) (Some k) stale stale' p q v u e m n =
     let d : ◌≡◌ {A = Delivered} (record { reads = h.reads; verdict = h.verdict; stale = stale }) (record { reads = k.reads; verdict = k.verdict; stale = stale' }) = cc in
     let r = ap (λ (x : Delivered). x.reads) d in
-    let v = ap (λ (x : Delivered). x.verdict) d in
+    let o = ap (λ (x : Delivered). x.verdict) d in
     let z = ap (λ (x : Delivered). x.stale) d in
-    λ i. record { ticket = p i; waiting = record { block = q i; held = Some (record { reads = r i; verdict = v i }) }; stale = z i; label = u i }
+    λ i. record { ticket = p i; waiting = record { block = q i; held = Some (record { reads = r i; verdict = o i }) }; stale = z i; cause = v i; label = u i }
 
-pub same_block : (T : List Named) (b c : CheckpointBlock) → FitsWaiting T b.ticket b.waiting.block b.label (delivery_of_block b) → FitsWaiting T c.ticket c.waiting.block c.label (delivery_of_block c)
+pub same_block : (T : List Named) (b c : CheckpointBlock) → FitsWaiting T b.ticket b.waiting.block b.cause b.label (delivery_of_block b) → FitsWaiting T c.ticket c.waiting.block c.cause c.label (delivery_of_block c)
     → (b.waiting.held ≡ None → b.stale ≡ false) → (c.waiting.held ≡ None → c.stale ≡ false) → block_line b ≡ block_line c → b ≡ c
 same_block T b c f g m n l =
-    let s = waiting_same T b.ticket c.ticket b.waiting.block c.waiting.block b.label c.label (delivery_of_block b) (delivery_of_block c) f g l in
-    same_parts b.ticket c.ticket b.waiting.block c.waiting.block b.label c.label b.waiting.held c.waiting.held b.stale c.stale s.0 s.1 s.2 s.3 m n
+    let s = waiting_same T b.ticket c.ticket b.waiting.block c.waiting.block b.cause c.cause b.label c.label (delivery_of_block b) (delivery_of_block c) f g l in
+    same_parts b.ticket c.ticket b.waiting.block c.waiting.block b.cause c.cause b.label c.label b.waiting.held c.waiting.held b.stale c.stale s.0 s.1 s.2 s.3 s.4 m n
 
 pub record AreOneBlocks (bs cs : List CheckpointBlock) (a b : List ℕ) : Type 0 where
   pub blocks : bs ≡ cs
@@ -110,7 +111,7 @@ blocks T [] (y ∷ cs) a b f g m n l e = absurd (omega (arith, l))
 blocks T (x ∷ bs) [] a b f g m n l e = absurd (omega (arith, l))
 blocks T (x ∷ bs) (y ∷ cs) a b f g m n l e =
     let cut = cut_unique (block_line x) (block_lines bs ++ a) (block_line y) (block_lines cs ++ b)
-    (no_feed _ (waiting_one_line T x.ticket x.waiting.block x.label (delivery_of_block x) f.0)) (no_feed _ (waiting_one_line T y.ticket y.waiting.block y.label (delivery_of_block y) g.0))
+    (no_feed _ (waiting_one_line T x.ticket x.waiting.block x.cause x.label (delivery_of_block x) f.0)) (no_feed _ (waiting_one_line T y.ticket y.waiting.block y.cause y.label (delivery_of_block y) g.0))
     (sym (append_assoc (block_line x) (10 ∷ block_lines bs) a) ∙ e ∙ append_assoc (block_line y) (10 ∷ block_lines cs) b) in
     let first : x ≡ y = same_block T x y f.0 g.0 m.0 n.0 cut.line in
     let r = blocks T bs cs a b f.1 g.1 m.1 n.1 (omega (arith, l)) cut.rest in

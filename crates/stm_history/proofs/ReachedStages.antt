@@ -1,5 +1,5 @@
 -- The progress of each stage, and what is reported of it.
-use Rattle.std.proofs.Common.{◌≡◌, ℕ, ◌≤◌, ◌<◌, Bool, true, false, List, [], ◌∷◌, ◌++◌, length, Option, Some, None, refl, sym, ap, ◌∙◌, subst, arith, length-append, ◌⊎◌, inl, inr, Result, Ok, Err, IfOk, IfErr, OnOk}
+use Rattle.std.proofs.Common.{◌≡◌, ℕ, ◌≤◌, ◌<◌, Bool, true, false, List, [], ◌∷◌, ◌++◌, length, Option, Some, None, refl, sym, ap, ap₂, ◌∙◌, subst, arith, length-append, ◌⊎◌, inl, inr, Result, Ok, Err, IfOk, IfErr, OnOk}
 use Rattle.std.specs.Prelude.{◌≢◌, nat_lt, option_map}
 use Rattle.std.proofs.lemmas.Bool.Decides.{nat_tests}
 use Rattle.std.proofs.lemmas.List.{length-map}
@@ -12,6 +12,7 @@ use Rattle.stm_machine.specs.Checkpoints.{CheckpointView, MayAdd, checkpoint_blo
 use Rattle.stm_machine.specs.declared.checkpoint.CheckpointBlock.{CheckpointBlock}
 use Rattle.stm_check.specs.TypedBlock.{Block}
 use Rattle.stm_events.specs.Delivered.{Delivered}
+use Rattle.stm_events.specs.declared.kept_cause.KeptCause.{KeptCause}
 use Rattle.stm_event_lines.specs.CheckpointLines.{FitsCell, FitsWaiting, IsCheckpointFormat, cell_line, checkpoint_format, checkpoint_header_line, waiting_line}
 use Rattle.stm_event_lines.specs.Fits.{Is32Bit}
 use Rattle.stm_event_lines.specs.Lines.{IsFormat, header_line}
@@ -26,7 +27,7 @@ use Rattle.stm_history.specs.Following.{Follows}
 use Rattle.stm_history.specs.HistoryText.{block_line}
 use Rattle.stm_history.specs.Judgement.{IsBefore, next_line}
 use Rattle.stm_history.specs.Stages.{CountsWithinLimits, IsSmallStart, IsStage, LeadsToStage}
-use Rattle.stm_history.specs.Starts.{Start, delivery_of_block, is_unlabelled}
+use Rattle.stm_history.specs.Starts.{Start, delivery_of_block, is_plain_block}
 use Rattle.stm_waiting.specs.declared.waiting.Held.{Held}
 use Rattle.stm_history.proofs.OneReading.{AreMarked, marked_from}
 
@@ -158,62 +159,64 @@ cell_unread format next vars waiting names cells line never q k = never k.0 k.1 
 
 -- ---- a waiting block
 -- what it brought is what was read
-pub delivery_same : (ticket : ℕ) (block : Block) (label : List ℕ) (d : Option Delivered) → delivery_of_block (checkpoint_block ticket block d label) ≡ d
-delivery_same ticket block label None = refl
-delivery_same ticket block label (Some d) = refl
+pub delivery_same : (ticket : ℕ) (block : Block) (w : Option KeptCause) (label : List ℕ) (d : Option Delivered) → delivery_of_block (checkpoint_block ticket block d w label) ≡ d
+delivery_same ticket block w label None = refl
+delivery_same ticket block w label (Some d) = refl
 
-pub block_line_same : (ticket : ℕ) (block : Block) (label : List ℕ) (d : Option Delivered) → block_line (checkpoint_block ticket block d label) ≡ waiting_line ticket block.text label d
-block_line_same ticket block label d = ap (waiting_line ticket block.text label) (delivery_same ticket block label d)
+pub block_line_same : (ticket : ℕ) (block : Block) (w : Option KeptCause) (label : List ℕ) (d : Option Delivered) → block_line (checkpoint_block ticket block d w label) ≡ waiting_line ticket block.text w label d
+block_line_same ticket block w label d = ap (waiting_line ticket block.text w label) (delivery_same ticket block w label d)
 
-pub block_fits : (names : List Named) (ticket : ℕ) (block : Block) (label : List ℕ) (d : Option Delivered) → FitsWaiting names ticket block label d → FitsWaiting names ticket block label (delivery_of_block (checkpoint_block ticket block d label))
-block_fits names ticket block label d f = subst (λ (x : Option Delivered). FitsWaiting names ticket block label x) (sym (delivery_same ticket block label d)) f
+pub block_fits : (names : List Named) (ticket : ℕ) (block : Block) (w : Option KeptCause) (label : List ℕ) (d : Option Delivered) → FitsWaiting names ticket block w label d → FitsWaiting names ticket block w label (delivery_of_block (checkpoint_block ticket block d w label))
+block_fits names ticket block w label d f = subst (λ (x : Option Delivered). FitsWaiting names ticket block w label x) (sym (delivery_same ticket block w label d)) f
 
 -- a new block that may be added isn't stale
-pub block_unread : (format waiting : ℕ) (c : CheckpointView) (line : List ℕ) → ((ticket : ℕ) (block : Block) (label : List ℕ) (d : Option Delivered) → FitsWaiting c.names ticket block label d → waiting_line ticket block.text label d ≢ line)
+pub block_unread : (format waiting : ℕ) (c : CheckpointView) (line : List ℕ) → ((ticket : ℕ) (block : Block) (w : Option KeptCause) (label : List ℕ) (d : Option Delivered) → FitsWaiting c.names ticket block w label d → waiting_line ticket block.text w label d ≢ line)
     → (q : CheckerState) → LeadsTo (at_blocks format waiting c) line q → ⊥
 block_unread format waiting c line never q k =
     let b = k.0 in
-    never b.ticket b.waiting.block b.label (delivery_of_block b) (k.2).0 k.1
+    never b.ticket b.waiting.block b.cause b.label (delivery_of_block b) (k.2).0 k.1
 
 last_marked : (bs : List CheckpointBlock) (b : CheckpointBlock) → AreMarked (bs ++ b ∷ []) → b.waiting.held ≡ None → b.stale ≡ false
 last_marked [] b m = m.0
 last_marked (x ∷ bs) b m = last_marked bs b m.1
 
-back_by : (ticket : ℕ) (block : Block) (label : List ℕ) (held : Option Held) (stale : Bool) → (held ≡ None → stale ≡ false)
-    → checkpoint_block ticket block (option_map (λ h. record { reads = h.reads; verdict = h.verdict; stale = stale }) held) label ≡ record { ticket = ticket; waiting = record { block = block; held = held }; stale = stale; label = label }
-back_by ticket block label None stale m = let fresh : stale ≡ false = m refl in λ i. record { ticket = ticket; waiting = record { block = block; held = None }; stale = (sym fresh) i; label = label }
-back_by ticket block label (Some h) stale m = refl
+back_by : (ticket : ℕ) (block : Block) (w : Option KeptCause) (label : List ℕ) (held : Option Held) (stale : Bool) → (held ≡ None → stale ≡ false)
+    → checkpoint_block ticket block (option_map (λ h. record { reads = h.reads; verdict = h.verdict; stale = stale }) held) w label ≡ record { ticket = ticket; waiting = record { block = block; held = held }; stale = stale; cause = w; label = label }
+back_by ticket block w label None stale m = let fresh : stale ≡ false = m refl in λ i. record { ticket = ticket; waiting = record { block = block; held = None }; stale = (sym fresh) i; cause = w; label = label }
+back_by ticket block w label (Some h) stale m = refl
 
-block_back : (b : CheckpointBlock) → (b.waiting.held ≡ None → b.stale ≡ false) → checkpoint_block b.ticket b.waiting.block (delivery_of_block b) b.label ≡ b
-block_back b m = back_by b.ticket b.waiting.block b.label b.waiting.held b.stale m
+block_back : (b : CheckpointBlock) → (b.waiting.held ≡ None → b.stale ≡ false) → checkpoint_block b.ticket b.waiting.block (delivery_of_block b) b.cause b.label ≡ b
+block_back b m = back_by b.ticket b.waiting.block b.cause b.label b.waiting.held b.stale m
 
-pub block_refused : (format waiting : ℕ) (c : CheckpointView) (ticket : ℕ) (block : Block) (label : List ℕ) (d : Option Delivered) → FitsWaiting c.names ticket block label d → (MayAdd c (checkpoint_block ticket block d label) → ⊥)
-    → (q : CheckerState) → LeadsTo (at_blocks format waiting c) (waiting_line ticket block.text label d) q → ⊥
-block_refused format waiting c ticket block label d f never q k =
+pub block_refused : (format waiting : ℕ) (c : CheckpointView) (ticket : ℕ) (block : Block) (w : Option KeptCause) (label : List ℕ) (d : Option Delivered) → FitsWaiting c.names ticket block w label d → (MayAdd c (checkpoint_block ticket block d w label) → ⊥)
+    → (q : CheckerState) → LeadsTo (at_blocks format waiting c) (waiting_line ticket block.text w label d) q → ⊥
+block_refused format waiting c ticket block w label d f never q k =
     let b = k.0 in
     let may : MayAdd c b = (k.2).1 in
-    let same = waiting_same c.names b.ticket ticket b.waiting.block block b.label label (delivery_of_block b) d (k.2).0 f k.1 in
+    let same = waiting_same c.names b.ticket ticket b.waiting.block block b.cause w b.label label (delivery_of_block b) d (k.2).0 f k.1 in
     let tickets : b.ticket ≡ ticket = same.0 in
     let blocks : b.waiting.block ≡ block = same.1 in
-    let labels : b.label ≡ label = same.2 in
-    let brought : delivery_of_block b ≡ d = same.3 in
+    let causes : b.cause ≡ w = same.2 in
+    let labels : b.label ≡ label = same.3 in
+    let brought : delivery_of_block b ≡ d = same.4 in
     let marked = last_marked c.blocks b (marked_from c.store c.next 0 (c.blocks ++ b ∷ []) may.blocks) in
-    let parts : checkpoint_block b.ticket b.waiting.block (delivery_of_block b) b.label ≡ checkpoint_block ticket block d label = λ i. checkpoint_block (tickets i) (blocks i) (brought i) (labels i) in
+    let parts : checkpoint_block b.ticket b.waiting.block (delivery_of_block b) b.cause b.label ≡ checkpoint_block ticket block d w label = λ i. checkpoint_block (tickets i) (blocks i) (brought i) (causes i) (labels i) in
     never (subst (MayAdd c) (sym (block_back b marked) ∙ parts) may)
 
--- a block with a label isn't taken in format 4
-pub label_refused_there : (format waiting : ℕ) (c : CheckpointView) (ticket : ℕ) (block : Block) (label : List ℕ) (d : Option Delivered) → FitsWaiting c.names ticket block label d
-    → ((format ≡ checkpoint_format → is_unlabelled label ≡ true) → ⊥) → (q : CheckerState) → LeadsTo (at_blocks format waiting c) (waiting_line ticket block.text label d) q → ⊥
-label_refused_there format waiting c ticket block label d f never q k =
+-- a block with a cause or a label isn't taken in format 4
+pub format_refused : (format waiting : ℕ) (c : CheckpointView) (ticket : ℕ) (block : Block) (w : Option KeptCause) (label : List ℕ) (d : Option Delivered) → FitsWaiting c.names ticket block w label d
+    → ((format ≡ checkpoint_format → is_plain_block w label ≡ true) → ⊥) → (q : CheckerState) → LeadsTo (at_blocks format waiting c) (waiting_line ticket block.text w label d) q → ⊥
+format_refused format waiting c ticket block w label d f never q k =
     let b = k.0 in
-    let same = waiting_same c.names b.ticket ticket b.waiting.block block b.label label (delivery_of_block b) d (k.2).0 f k.1 in
-    let labels : b.label ≡ label = same.2 in
-    never (λ is. ap is_unlabelled (sym labels) ∙ (k.2).2 is)
+    let same = waiting_same c.names b.ticket ticket b.waiting.block block b.cause w b.label label (delivery_of_block b) d (k.2).0 f k.1 in
+    let causes : b.cause ≡ w = same.2 in
+    let labels : b.label ≡ label = same.3 in
+    never (λ is. ap₂ is_plain_block (sym causes) (sym labels) ∙ (k.2).2 is)
 
-pub add_refused : (format waiting : ℕ) (c : CheckpointView) (ticket : ℕ) (block : Block) (label : List ℕ) (d : Option Delivered) (f : HistoryFault) → FitsWaiting c.names ticket block label d
-    → (f ≡ NoMemory) ⊎ ((f ≡ BadHeader) × (MayAdd c (checkpoint_block ticket block d label) → ⊥)) → MayRefuse (at_blocks format waiting c) (waiting_line ticket block.text label d) f
-add_refused format waiting c ticket block label d f fits (inl k) = inl k
-add_refused format waiting c ticket block label d f fits (inr k) = inr (inl (k.0, block_refused format waiting c ticket block label d fits k.1))
+pub add_refused : (format waiting : ℕ) (c : CheckpointView) (ticket : ℕ) (block : Block) (w : Option KeptCause) (label : List ℕ) (d : Option Delivered) (f : HistoryFault) → FitsWaiting c.names ticket block w label d
+    → (f ≡ NoMemory) ⊎ ((f ≡ BadHeader) × (MayAdd c (checkpoint_block ticket block d w label) → ⊥)) → MayRefuse (at_blocks format waiting c) (waiting_line ticket block.text w label d) f
+add_refused format waiting c ticket block w label d f fits (inl k) = inl k
+add_refused format waiting c ticket block w label d f fits (inr k) = inr (inl (k.0, block_refused format waiting c ticket block w label d fits k.1))
 
 -- ---- the stage among the events
 pub run_leads : (format : ℕ) (table : List Declared) (c : Option CheckpointView) (r r' : Replayer) (line : List ℕ)

@@ -50,8 +50,8 @@ checkpoint_header_no_feed format next vars waiting i h =
 cell_no_feed : (name : Option (List ℕ)) (c : Cell) → FitsCell name c → NoFeed (cell_line name c)
 cell_no_feed name c f = no_feed (cell_line name c) (cell_one_line name c f)
 
-block_no_feed : (names : List Named) (b : CheckpointBlock) → FitsWaiting names b.ticket b.waiting.block b.label (delivery_of_block b) → NoFeed (block_line b)
-block_no_feed names b f = no_feed (block_line b) (waiting_one_line names b.ticket b.waiting.block b.label (delivery_of_block b) f)
+block_no_feed : (names : List Named) (b : CheckpointBlock) → FitsWaiting names b.ticket b.waiting.block b.cause b.label (delivery_of_block b) → NoFeed (block_line b)
+block_no_feed names b f = no_feed (block_line b) (waiting_one_line names b.ticket b.waiting.block b.cause b.label (delivery_of_block b) f)
 
 header_leads_no_feed : (line : List ℕ) (q : CheckerState) → LeadsTo at_header line q → NoFeed line
 header_leads_no_feed line q (inl k) = subst NoFeed k.3 (header_no_feed k.0 k.1 k.2 k.4)

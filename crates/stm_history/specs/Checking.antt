@@ -17,7 +17,7 @@ use Rattle.stm_history.specs.declared.files.fault.HistoryFault.{HistoryFault}
 use Rattle.stm_history.specs.declared.files.fault.HistoryFault.TheVariants.{ReadFault, BadHeader, BadLine, NotLegal, NoMemory}
 use Rattle.stm_history.specs.HistoryText.{block_line, cells_text, checkpoint_text, head_text, history_text}
 use Rattle.stm_history.specs.Judgement.{IsShort, MayDeclare, AreVariables, AreEvents, FitCells, IsReadable, IsStart, NoEventNext, IsIllegalFrom, next_line}
-use Rattle.stm_history.specs.Starts.{Start, delivery_of_block, first_state, is_unlabelled, names_after}
+use Rattle.stm_history.specs.Starts.{Start, delivery_of_block, first_state, is_plain_block, names_after}
 
 -- no byte is a line feed
 abbrev pub NoFeed : List ℕ → Type 0
@@ -83,11 +83,11 @@ pub record MayTakeCell (format vars : ℕ) (names : List Named) (cells : List Ce
   pub named : MayBeNamed format names (length cells) name c.kind
   pub store : length cells + 1 ≡ vars → IsStore (plains (cells ++ c ∷ []))
 
--- the waiting block may come next, in the format: in format 4 it has no label
+-- the waiting block may come next, in the format: in format 4 it has no label, and it isn't known why it is stale
 abbrev pub MayTakeBlock : ℕ → CheckpointView → CheckpointBlock → Type 0
 MayTakeBlock format c b =
-    FitsWaiting c.names b.ticket b.waiting.block b.label (delivery_of_block b) × MayAdd c b
-    × (format ≡ checkpoint_format → is_unlabelled b.label ≡ true)
+    FitsWaiting c.names b.ticket b.waiting.block b.cause b.label (delivery_of_block b) × MayAdd c b
+    × (format ≡ checkpoint_format → is_plain_block b.cause b.label ≡ true)
 
 -- the first line is that of a table in a format
 abbrev pub LeadsToVariables : List ℕ → CheckerState → Type 0

@@ -6,6 +6,7 @@ use Rattle.stm_store.specs.Naming.{Named}
 use Rattle.stm_store.specs.Tables.{Declared, AreDeclared}
 use Rattle.stm_check.specs.TypedBlock.{Block}
 use Rattle.stm_events.specs.Delivered.{Delivered}
+use Rattle.stm_events.specs.declared.kept_cause.KeptCause.{KeptCause}
 use Rattle.stm_events.specs.declared.event.Event.{Event}
 use Rattle.stm_events.specs.SlowDesk.{IsLegalBy, initial_state}
 use Rattle.stm_events.specs.States.{IsLegalFrom}
@@ -35,8 +36,9 @@ pub record CheckpointsAreLines : Type 0 where
   pub headers : (format next vars waiting : ℕ) → IsCheckpointFormat format → Is32Bit next → Is32Bit vars → Is32Bit waiting
       → IsOneLine (checkpoint_header_line format next vars waiting)
   pub cells : (name : Option (List ℕ)) (c : Cell) → FitsCell name c → IsOneLine (cell_line name c)
-  pub blocks : (names : List Named) (ticket : ℕ) (block : Block) (label : List ℕ) (d : Option Delivered) → FitsWaiting names ticket block label d
-      → IsOneLine (waiting_line ticket block.text label d)
+  pub blocks : (names : List Named) (ticket : ℕ) (block : Block) (cause : Option KeptCause) (label : List ℕ) (d : Option Delivered)
+      → FitsWaiting names ticket block cause label d
+      → IsOneLine (waiting_line ticket block.text cause label d)
 
 -- each line of a history begins with `{`
 abbrev pub LinesBeginWithBraces : Type 0
@@ -49,7 +51,8 @@ abbrev pub CheckpointsBeginWithBraces : Type 0
 CheckpointsBeginWithBraces =
     ((format next vars waiting : ℕ) → BeginsWithBrace (checkpoint_header_line format next vars waiting))
     × ((name : Option (List ℕ)) (c : Cell) → BeginsWithBrace (cell_line name c))
-    × ((ticket : ℕ) (text label : List ℕ) (d : Option Delivered) → BeginsWithBrace (waiting_line ticket text label d))
+    × ((ticket : ℕ) (text : List ℕ) (cause : Option KeptCause) (label : List ℕ) (d : Option Delivered)
+    → BeginsWithBrace (waiting_line ticket text cause label d))
 
 -- the numbers of a history are fixed by its text
 abbrev pub NumbersAreFixed : Type 0

@@ -40,7 +40,7 @@ cell_lines names cells = cell_lines_from 0 names cells
 
 -- the line of a waiting block
 abbrev pub block_line : CheckpointBlock → List ℕ
-block_line b = waiting_line b.ticket b.waiting.block.text b.label (delivery_of_block b)
+block_line b = waiting_line b.ticket b.waiting.block.text b.cause b.label (delivery_of_block b)
 
 -- the lines of waiting blocks, with their line feeds
 abbrev pub block_lines : List CheckpointBlock → List ℕ

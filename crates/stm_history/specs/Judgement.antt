@@ -15,7 +15,7 @@ use Rattle.stm_history.specs.declared.files.fault.HistoryFault.{HistoryFault}
 use Rattle.stm_history.specs.declared.files.fault.HistoryFault.TheVariants.{ReadFault, BadHeader, BadLine, NotLegal, NoMemory}
 use Rattle.stm_history.specs.declared.files.fault.Legal.{Legal}
 use Rattle.stm_history.specs.HistoryText.{block_line, history_text, start_text}
-use Rattle.stm_history.specs.Starts.{Start, are_unlabelled, delivery_of_block, first_state, names_after, state_after_start}
+use Rattle.stm_history.specs.Starts.{Start, are_plain_blocks, delivery_of_block, first_state, names_after, state_after_start}
 
 -- the most bytes of a line, its line feed not counted
 abbrev pub max_line : ℕ
@@ -54,7 +54,7 @@ FitCells (c ∷ cs) = FitsCell None c × FitCells cs
 -- each waiting block can be in a line over the names
 abbrev pub FitBlocks : List Named → List CheckpointBlock → Type 0
 FitBlocks names [] = ⊤
-FitBlocks names (b ∷ bs) = FitsWaiting names b.ticket b.waiting.block b.label (delivery_of_block b) × FitBlocks names bs
+FitBlocks names (b ∷ bs) = FitsWaiting names b.ticket b.waiting.block b.cause b.label (delivery_of_block b) × FitBlocks names bs
 
 -- the checkpoint can be written
 pub record CheckpointFits (c : CheckpointView) : Type 0 where
@@ -82,14 +82,14 @@ abbrev pub FormatFits : ℕ → Option CheckpointView → Type 0
 FormatFits format None = IsFormat format
 FormatFits format (Some c) =
     IsCheckpointFormat format × (format ≡ checkpoint_format → is_gapless c.names ≡ true)
-    × (format ≡ checkpoint_format → are_unlabelled c.blocks ≡ true)
+    × (format ≡ checkpoint_format → are_plain_blocks c.blocks ≡ true)
 
 -- the checkpoint can be read in the format, which is one of checkpoints: in format 4 no name comes after a variable without one,
--- and no block has a label
+-- no block has a label, and of none it is known why it is stale
 pub record IsReadable (format : ℕ) (c : CheckpointView) : Type 0 where
   pub is_format : IsCheckpointFormat format
   pub gapless : format ≡ checkpoint_format → is_gapless c.names ≡ true
-  pub unlabelled : format ≡ checkpoint_format → are_unlabelled c.blocks ≡ true
+  pub plain : format ≡ checkpoint_format → are_plain_blocks c.blocks ≡ true
   pub fits : CheckpointFits c
   pub short : HaveShortLines c.blocks
 

@@ -1,10 +1,11 @@
 -- Where a history begins: with the first values of a table's variables, or from a checkpoint.
-use Rattle.std.specs.Prelude.{◌≡◌, ◌⊎◌, ℕ, ⊤, Bool, true, false, ◌&&◌, ◌||◌, length, if◌then◌else◌, List, [], ◌∷◌, Option, Some, None, Ok, option_map}
+use Rattle.std.specs.Prelude.{◌≡◌, ◌⊎◌, ℕ, ⊤, Bool, true, false, not, ◌&&◌, ◌||◌, length, if◌then◌else◌, List, [], ◌∷◌, Option, Some, None, Ok, is_some, option_map}
 use Rattle.std.specs.Bool.{◌==◌}
 use Rattle.std.specs.List.{list_all, list_any}
 use Rattle.stm_store.specs.Naming.{Named, is_gapless}
 use Rattle.stm_store.specs.Tables.{Declared}
 use Rattle.stm_events.specs.Delivered.{Delivered}
+use Rattle.stm_events.specs.declared.kept_cause.KeptCause.{KeptCause}
 use Rattle.stm_events.specs.declared.event.Event.{Event}
 use Rattle.stm_events.specs.declared.event.What.{What}
 use Rattle.stm_events.specs.declared.event.What.TheVariants.{Submitted, Installed, Finished, Cancelled, Declared as DeclaredLate, Labelled}
@@ -64,19 +65,19 @@ declares history = list_any (λ e. is_declaration e.what) history
 abbrev pub labels_blocks : List Event → Bool
 labels_blocks history = list_any (λ e. is_labelling e.what) history
 
--- the text is no label: it is empty
-abbrev pub is_unlabelled : List ℕ → Bool
-is_unlabelled label = length label == 0
+-- a waiting block can stand in format 4: it isn't known why it is stale, and it has no label
+abbrev pub is_plain_block : Option KeptCause → List ℕ → Bool
+is_plain_block cause label = not (is_some cause) && (length label == 0)
 
--- none of these waiting blocks has a label
-abbrev pub are_unlabelled : List CheckpointBlock → Bool
-are_unlabelled blocks = list_all (λ b. is_unlabelled b.label) blocks
+-- each of these waiting blocks can
+abbrev pub are_plain_blocks : List CheckpointBlock → Bool
+are_plain_blocks blocks = list_all (λ b. is_plain_block b.cause b.label) blocks
 
 -- the format of a start whose history declares no variable and labels no block: a checkpoint has its own one, or that of late
--- declarations if a name comes after a variable without one, or if a block has a label
+-- declarations if a name comes after a variable without one, or if a block has a label, or if it is known why one is stale
 abbrev pub format_of_start : Option CheckpointView → ℕ
 format_of_start None = latest_format
-format_of_start (Some c) = if is_gapless c.names && are_unlabelled c.blocks then checkpoint_format else declaring_format
+format_of_start (Some c) = if is_gapless c.names && are_plain_blocks c.blocks then checkpoint_format else declaring_format
 
 -- the format in which a history is written
 abbrev pub format_for : Option CheckpointView → List Event → ℕ

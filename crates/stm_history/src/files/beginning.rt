@@ -6,7 +6,7 @@ ghost use Rattle.stm_store.specs.Naming.{named_uses, NumbersAreBelow};
 ghost use Rattle.stm_terms.specs.Names.{is_name_text};
 ghost use Rattle.stm_machine.specs.Checkpoints.{MayAdd, checkpoint_block};
 ghost use Rattle.stm_event_lines.specs.CheckpointLines.{FitsCell, FitsWaiting, IsCheckpointFormat, cell_line, checkpoint_format, waiting_line};
-ghost use Rattle.stm_history.specs.Starts.{is_unlabelled};
+ghost use Rattle.stm_history.specs.Starts.{is_plain_block};
 ghost use Rattle.stm_history.specs.Checking.{CheckerState, at_header, at_cells, at_blocks, IsCheckpointHead, LeadsToCells, MayBeNamed, MayRefuse, with_name_of};
 ghost use Rattle.stm_history.specs.Checking.{with_blocks as progress_with_blocks, with_cells as progress_with_cells};
 ghost use Rattle.stm_history.specs.Stages.{keeps, IsStage, LeadsToStage};
@@ -241,11 +241,11 @@ pub(crate) fn take_cell(
     }
 }
 
-/// Whether the waiting block may have its label, if it has one.
-pub(crate) fn may_be_labelled(format: u32, block: &WaitingBlock) -> bool
-    ensures { IsTrue result ↔ (format ≡ checkpoint_format → is_unlabelled block.now.label ≡ true) }
+/// Whether the waiting block may have its cause and its label, if it has them, in the format.
+pub(crate) fn may_have_format(format: u32, block: &WaitingBlock) -> bool
+    ensures { IsTrue result ↔ (format ≡ checkpoint_format → is_plain_block block.now.cause block.now.label ≡ true) }
 {
-    format != CHECKPOINT_FORMAT || block.label.as_str().is_empty()
+    format != CHECKPOINT_FORMAT || (block.cause.is_none() && block.label.as_str().is_empty())
 }
 
 /// Adds the waiting block to the checkpoint.
@@ -254,21 +254,22 @@ pub(crate) fn add_block(
     checkpoint: &mut Checkpoint,
     block: WaitingBlock,
 ) -> Result<(), HistoryFault>
-    ensures done { OnOk result (MayAdd checkpoint.old (checkpoint_block block.ticket block.block block.delivery block.label)
+    ensures done { OnOk result (MayAdd checkpoint.old (checkpoint_block block.ticket block.block block.delivery block.cause block.label)
         × (checkpoint.new ≡ record checkpoint.old {
           blocks = checkpoint.old.blocks
-              ++ checkpoint_block block.ticket block.block block.delivery block.label ∷ [];
+              ++ checkpoint_block block.ticket block.block block.delivery block.cause block.label ∷ [];
         })) }
     ensures refused { IfErr result (λ e. (e ≡ HistoryFault.NoMemory) ⊎ ((e ≡ HistoryFault.BadHeader)
-        × (MayAdd checkpoint.old (checkpoint_block block.ticket block.block block.delivery block.label) → ⊥))) }
+        × (MayAdd checkpoint.old (checkpoint_block block.ticket block.block block.delivery block.cause block.label) → ⊥))) }
 {
     let WaitingBlock {
         ticket,
         block,
+        cause,
         label,
         delivery,
     } = block;
-    match checkpoint.add(alloc, ticket, block, delivery, label) {
+    match checkpoint.add(alloc, ticket, block, delivery, cause, label) {
         Ok(()) => Ok(()),
         Err(AddError::NotPossible) => Err(HistoryFault::BadHeader),
         Err(AddError::NoMemory) => Err(HistoryFault::NoMemory),
@@ -285,14 +286,14 @@ fn take_added(
     mut checkpoint: Checkpoint,
     block: WaitingBlock,
 ) -> Result<Stage, HistoryFault>
-    requires { FitsWaiting checkpoint.names block.ticket block.block block.label block.delivery }
+    requires { FitsWaiting checkpoint.names block.ticket block.block block.cause block.label block.delivery }
     ensures leads { IfOk result (λ s. LeadsToStage (at_blocks format waiting checkpoint)
-        (waiting_line block.ticket block.block.text block.label block.delivery) s) }
+        (waiting_line block.ticket block.block.text block.cause block.label block.delivery) s) }
     ensures refused { IfErr result (λ e. MayRefuse (at_blocks format waiting checkpoint)
-        (waiting_line block.ticket block.block.text block.label block.delivery) e) }
+        (waiting_line block.ticket block.block.text block.cause block.label block.delivery) e) }
     ensures keeps { IfOk result (λ s. keeps s ≡ keep) }
 {
-    if !may_be_labelled(format, &block) {
+    if !may_have_format(format, &block) {
         return Err(HistoryFault::BadHeader);
     }
     match add_block(alloc, &mut checkpoint, block) {

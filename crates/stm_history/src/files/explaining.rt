@@ -18,7 +18,7 @@ ghost use Rattle.stm_event_lines.specs.Lines.{IsFormat, variable_line};
 ghost use Rattle.stm_history.specs.Stages.{CountsWithinLimits, IsStage};
 ghost use Rattle.stm_event_lines.specs.Variables.{declared};
 
-use crate::files::beginning::{add_block, is_head, may_be_labelled, may_be_named};
+use crate::files::beginning::{add_block, is_head, may_be_named, may_have_format};
 use crate::files::check::{MAX_CELLS, MAX_LINE, Stage};
 use crate::files::expecting::Expectation;
 use crate::files::explanation::Explanation;
@@ -390,10 +390,10 @@ fn block_due(
     checkpoint: &mut Checkpoint,
     block: WaitingBlock,
 ) -> Result<Explanation, NoMemory>
-    requires { FitsWaiting checkpoint.old.names block.ticket block.block block.label block.delivery }
+    requires { FitsWaiting checkpoint.old.names block.ticket block.block block.cause block.label block.delivery }
     ensures { IfOk result (λ x. (waiting : ℕ) → ExplainsHead (at_blocks format waiting checkpoint.old) x) }
 {
-    if !may_be_labelled(format, &block) {
+    if !may_have_format(format, &block) {
         return Ok(Explanation::Unreadable);
     }
     let text = waiting_text(alloc, &block)?;

@@ -2,7 +2,7 @@
 
 ghost use Rattle.std.specs.Prelude.{◌≡◌, ℕ, List, IfOk, OnOk, option_map};
 ghost use Rattle.stm_store.specs.declared.cell.Cell.{Cell as AnyCell};
-ghost use Rattle.stm_events.specs.Labels.{labels_after, labels_from};
+ghost use Rattle.stm_events.specs.Labels.{AreSameLabels, labels_after, labels_from};
 ghost use Rattle.stm_machine.specs.Checkpoints.{AreCheckpointBlocks, first_labels, labels_in};
 
 use std::alloc::Global;
@@ -13,7 +13,7 @@ use stm_terms::NoMemory;
 
 /// The labels after what happens.
 fn label_after(labels: &mut LabelTable, what: &What) -> Result<(), NoMemory>
-    ensures { OnOk result (labels.new ≡ labels_after labels.old what.now) }
+    ensures { OnOk result (AreSameLabels labels.new (labels_after labels.old what.now)) }
 {
     match what {
         What::Submitted { .. } => Ok(()),
@@ -36,7 +36,7 @@ fn label_after(labels: &mut LabelTable, what: &What) -> Result<(), NoMemory>
 
 /// The labels after the events of a list, one after another.
 fn follow_labels(labels: &mut LabelTable, history: &[Event]) -> Result<(), NoMemory>
-    ensures { OnOk result (labels.new ≡ labels_from labels.old history.now) }
+    ensures { OnOk result (AreSameLabels labels.new (labels_from labels.old history.now)) }
 {
     for event in history {
         match label_after(labels, &event.what) {
@@ -50,7 +50,7 @@ fn follow_labels(labels: &mut LabelTable, history: &[Event]) -> Result<(), NoMem
 /// The labels of the blocks of a checkpoint.
 fn labels_in(alloc: Global, blocks: &[CheckpointBlock]) -> Result<LabelTable, NoMemory>
     requires { (store : List AnyCell) × (n : ℕ) × AreCheckpointBlocks store n 0 blocks.now }
-    ensures { IfOk result (λ labels. labels ≡ labels_in blocks.now) }
+    ensures { IfOk result (λ labels. AreSameLabels labels (labels_in blocks.now)) }
 {
     let mut labels = LabelTable::empty(alloc);
     for block in blocks {
@@ -65,7 +65,7 @@ fn labels_in(alloc: Global, blocks: &[CheckpointBlock]) -> Result<LabelTable, No
 
 /// The labels with which a history begins: those of its checkpoint, if it begins from one.
 fn first_labels(alloc: Global, checkpoint: Option<&Checkpoint>) -> Result<LabelTable, NoMemory>
-    ensures { IfOk result (λ labels. labels ≡ first_labels (option_map (λ c. c.now) checkpoint.entry)) }
+    ensures { IfOk result (λ labels. AreSameLabels labels (first_labels (option_map (λ c. c.now) checkpoint.entry))) }
 {
     match checkpoint {
         None => Ok(LabelTable::empty(alloc)),
@@ -83,8 +83,8 @@ pub fn labels_after_history(
     checkpoint: Option<&Checkpoint>,
     history: &[Event],
 ) -> Result<LabelTable, NoMemory>
-    ensures { IfOk result (λ labels. labels
-        ≡ labels_from (first_labels (option_map (λ c. c.now) checkpoint.entry)) history.now) }
+    ensures { IfOk result (λ labels. AreSameLabels labels
+        (labels_from (first_labels (option_map (λ c. c.now) checkpoint.entry)) history.now)) }
 {
     let mut labels = first_labels(alloc, checkpoint)?;
     match follow_labels(&mut labels, history) {

@@ -2,15 +2,15 @@
 
 ghost use Rattle.std.specs.Prelude.{◌≡◌, ◌<◌, ◌++◌, ◌∷◌, [], IfOk, IfSome, Some, option_map, slice_get, length, string_bytes};
 ghost use Rattle.stm_store.specs.Naming.{name_numbered};
-ghost use Rattle.stm_event_lines.specs.CheckpointLines.{cell_line, checkpoint_header_line};
+ghost use Rattle.stm_event_lines.specs.CheckpointLines.{cell_line, checkpoint_header_line, parts_delivered};
 ghost use Rattle.stm_event_lines.specs.Lines.{header_line};
 ghost use Rattle.stm_history.specs.HistoryText.{block_line, block_lines, cell_lines, checkpoint_text, event_lines, head_text, history_text, start_text, variable_lines, WritesText};
-ghost use Rattle.stm_history.specs.Starts.{are_unlabelled, declares, format_for, format_of_start, is_declaration, is_labelling, labels_blocks, written_start};
+ghost use Rattle.stm_history.specs.Starts.{are_plain_blocks, declares, delivery_of_block, format_for, format_of_start, is_declaration, is_labelling, labels_blocks, written_start};
 
 use std::alloc::Global;
 use std::io::Write;
 use stm_event_lines::checkpoint::{
-    cell_text, checkpoint_header_text, delivered_block_text, new_block_text,
+    DeliveredParts, WaitingLine, cell_text, checkpoint_header_text, waiting_line_text,
 };
 use stm_event_lines::formats::{CHECKPOINT_FORMAT, DECLARING_FORMAT, LATEST_FORMAT};
 use stm_event_lines::write::{event_text, header_text, variable_text};
@@ -71,11 +71,11 @@ fn labels_blocks(history: &[Event]) -> bool
     history.iter().any(|event| is_labelling(&event.what))
 }
 
-/// Whether none of the waiting blocks has a label.
-fn are_unlabelled(blocks: &[CheckpointBlock]) -> bool
-    ensures { result ≡ are_unlabelled blocks.now }
+/// Whether each of the waiting blocks can stand in format 4: it has no label, and it isn't known why it is stale.
+fn are_plain_blocks(blocks: &[CheckpointBlock]) -> bool
+    ensures { result ≡ are_plain_blocks blocks.now }
 {
-    blocks.iter().all(|block| block.label.as_str().is_empty())
+    blocks.iter().all(|block| block.cause.is_none() && block.label.as_str().is_empty())
 }
 
 /// The format of a start whose history declares no variable and labels no block.
@@ -85,7 +85,7 @@ fn format_of_start(checkpoint: Option<&Checkpoint>) -> u32
     match checkpoint {
         None => LATEST_FORMAT,
         Some(checkpoint) => {
-            if checkpoint.names().is_gapless() && are_unlabelled(checkpoint.blocks()) {
+            if checkpoint.names().is_gapless() && are_plain_blocks(checkpoint.blocks()) {
                 CHECKPOINT_FORMAT
             } else {
                 DECLARING_FORMAT
@@ -95,7 +95,7 @@ fn format_of_start(checkpoint: Option<&Checkpoint>) -> u32
 }
 
 /// The format in which a history is written: 5 if an event declares a variable or labels a block, or if the checkpoint has a name after
-/// a variable without one or a block with a label; otherwise 4 with a checkpoint and 3 without.
+/// a variable without one, a block with a label, or one of which it is known why it is stale; otherwise 4 with a checkpoint and 3 without.
 pub fn format_for(checkpoint: Option<&Checkpoint>, history: &[Event]) -> u32
     ensures { result ≡ format_for (option_map (λ c. c.now) checkpoint.entry) history.now }
 {
@@ -268,23 +268,31 @@ fn write_cells<W: Write>(
     Ok(())
 }
 
+/// What the last delivery to a block brought, if there was one.
+fn delivered_to(block: &CheckpointBlock) -> Option<DeliveredParts<'_>>
+    ensures { option_map parts_delivered result ≡ delivery_of_block block.now }
+{
+    match &block.waiting.held {
+        None => None,
+        Some(held) => Some(DeliveredParts {
+            reads: held.reads.as_slice(),
+            verdict: &held.verdict,
+            stale: block.stale,
+        }),
+    }
+}
+
 fn block_text(alloc: Global, block: &CheckpointBlock) -> Result<String, NoMemory>
     ensures { IfOk result (λ s. string_bytes s ≡ block_line block.now) }
 {
-    let text = block.waiting.block.block().text();
-    let label = block.label.as_str();
-    match &block.waiting.held {
-        None => new_block_text(alloc, block.ticket, text, label),
-        Some(held) => delivered_block_text(
-            alloc,
-            block.ticket,
-            text,
-            label,
-            held.reads.as_slice(),
-            &held.verdict,
-            block.stale,
-        ),
-    }
+    waiting_line_text(&WaitingLine {
+        alloc,
+        ticket: block.ticket,
+        text: block.waiting.block.block().text(),
+        cause: block.cause.as_ref(),
+        label: block.label.as_str(),
+        delivery: delivered_to(block),
+    })
 }
 
 fn write_block<W: Write>(

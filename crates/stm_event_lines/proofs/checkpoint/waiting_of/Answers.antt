@@ -2,14 +2,20 @@ use Rattle.std.proofs.Common.{◌≡◌, ℕ, List, IsTrue, Option, Some, IfSome
 use Rattle.std.specs.Prelude.{option_and_then}
 use Rattle.serde_json.specs.View.{view}
 use Rattle.stm_events.specs.Delivered.{Delivered}
+use Rattle.stm_events.specs.declared.kept_cause.KeptCause.{KeptCause}
 use Rattle.stm_events.specs.Labels.{is_label}
-use Rattle.stm_event_lines.specs.CheckpointLines.{FitsDelivery}
+use Rattle.stm_event_lines.specs.CheckpointLines.{FitsCause, FitsDelivery}
 use Rattle.stm_event_lines.specs.Fields.{block_of_text, text_field}
 use Rattle.stm_event_lines.proofs.Checkpoints.{own_block}
 use Rattle.stm_event_lines.proofs.checkpoint.waiting_of.Goals as goal
 
-pub returns-in-Some-4-clause-fits : goal.returns-in-Some-4-clause-fits
-returns-in-Some-4-clause-fits c =
+pub returns-in-Some-5-clause-fits : goal.returns-in-Some-5-clause-fits
+returns-in-Some-5-clause-fits c =
     let text = text_field (codes "block") (view c.args.json.now) in
-    let e : option_and_then (block_of_text c.args.known.now) text ≡ Some c.in-Some-2.block = sym c.in_ok-block.ensures ∙ c.in-Some-2.is in
-    (c.in-Some.ensures.fits, own_block c.args.known.now text c.in-Some-2.block e, subst (λ (o : Option (Option Delivered)). IfSome o (λ d. FitsDelivery d)) c.in-Some-4.is c.in_ok-delivery.ensures.fits, subst (λ (o : Option (List ℕ)). IfSome o (λ l. IsTrue (is_label l))) c.in-Some-3.is c.in_ok-label.ensures.fits)
+    let e : option_and_then (block_of_text c.args.known.now) text ≡ Some c.in-Some-2.block = sym c.in_ok-block.ensures ∙ c.in-Some-2.is in (
+      c.in-Some.ensures.fits,
+      own_block c.args.known.now text c.in-Some-2.block e,
+      subst (λ (o : Option (Option KeptCause)). IfSome o (λ w. FitsCause w)) c.in-Some-3.is c.in_ok-cause.ensures.fits,
+      subst (λ (o : Option (Option Delivered)). IfSome o (λ d. FitsDelivery d)) c.in-Some-5.is c.in_ok-delivery.ensures.fits,
+      subst (λ (o : Option (List ℕ)). IfSome o (λ l. IsTrue (is_label l))) c.in-Some-4.is c.in_ok-label.ensures.fits,
+    )

@@ -1,14 +1,14 @@
 use Rattle.std.proofs.lemmas.Result.{on_ok_weaker}
-use Rattle.stm_event_lines.proofs.checkpoint.send_delivery.Goals as goal
+use Rattle.stm_event_lines.proofs.checkpoint.send_parts.Goals as goal
 
 pub returns : goal.returns
 returns g c =
     let w = g.S.Serializer.written in
     on_ok_weaker c.end_map.result (λ e. (
-      c.in_ok-send_reads_at.ensures.0,
-      w c.send_reads_at.new.out,
-      c.in_ok-send_reads_at.ensures.1,
-      c.in_ok-send_reads_at.ensures.2,
+      c.in_ok-send_pairs_at.ensures.0,
+      w c.send_pairs_at.new.out,
+      c.in_ok-send_pairs_at.ensures.1,
+      c.in_ok-send_pairs_at.ensures.2,
       (
         c.in_ok-send_stale_at.ensures.0,
         w c.send_stale_at.new.out,
