@@ -1,5 +1,5 @@
 -- A file that was repaired has what was loaded of it.
-use Rattle.std.proofs.Common.{◌≡◌, ◌⊎◌, inl, inr, ⊎_elim, ℕ, List, Bool, true, false, Option, Some, None, is_some, IfSome, [], ◌∷◌, refl, sym, ap, ap₂, subst, ◌∙◌}
+use Rattle.std.proofs.Common.{◌≡◌, inl, inr, ⊎_elim, ℕ, List, Bool, true, false, Option, Some, None, is_some, IfSome, [], ◌∷◌, refl, sym, ap, ap₂, subst, ◌∙◌}
 use Rattle.std.specs.Prelude.{◌&&◌, ◌||◌, if◌then◌else◌}
 use Rattle.std.proofs.lemmas.List.{append-nil}
 use Rattle.stm_store.specs.Naming.{is_gapless}
@@ -14,7 +14,7 @@ use Rattle.stm_event_lines.specs.Fits.{WhatFitsFormat}
 use Rattle.stm_event_lines.specs.Lines.{declaring_format, latest_format}
 use Rattle.stm_history.specs.Judgement.{AreEvents}
 use Rattle.stm_history.specs.Loading.{HasText, loaded_start}
-use Rattle.stm_history.specs.Starts.{IsLatest, Start, are_unlabelled, declares, format_for, format_of_start, is_declaration, is_labelling, labels_blocks}
+use Rattle.stm_history.specs.Starts.{IsLatest, Start, are_plain_blocks, declares, format_for, format_of_start, is_declaration, is_labelling, labels_blocks}
 use Rattle.stm_history.specs.declared.files.loading.Loaded.{Loaded}
 use Rattle.stm_journal.specs.Disk.{Disk}
 use Rattle.stm_journal.specs.Journal.{AtRest}
@@ -78,8 +78,8 @@ other_events format s (e ∷ es) other are =
 start_format_is : (checkpoint : Option CheckpointView) (es : List Event) → (declares es ≡ false) × (labels_blocks es ≡ false) → format_for checkpoint es ≡ format_of_start checkpoint
 start_format_is checkpoint es other = ap₂ (λ (a b : Bool). if a || b then declaring_format else format_of_start checkpoint) other.0 other.1
 
-checkpoint_start_is : (c : CheckpointView) → is_gapless c.names ≡ true → are_unlabelled c.blocks ≡ true → format_of_start (Some c) ≡ checkpoint_format
-checkpoint_start_is c gapless unlabelled = ap₂ (λ (a b : Bool). if a && b then checkpoint_format else declaring_format) gapless unlabelled
+checkpoint_start_is : (c : CheckpointView) → is_gapless c.names ≡ true → are_plain_blocks c.blocks ≡ true → format_of_start (Some c) ≡ checkpoint_format
+checkpoint_start_is c gapless plain = ap₂ (λ (a b : Bool). if a && b then checkpoint_format else declaring_format) gapless plain
 
 -- a history that was loaded is in one of its formats
 pub loaded_format_is : (format : ℕ) (table : List Declared) (checkpoint : Option CheckpointView) (es : List Event) → IsLatest format checkpoint
@@ -91,7 +91,7 @@ loaded_format_is format table (Some c) es latest text =
     let start = text.1.start.1 in
     ⊎_elim
     (λ four. inl (four ∙ sym (start_format_is (Some c) es (other_events format _ es (λ e. cc (e, four)) text.1.events)
-    ∙ checkpoint_start_is c (start.gapless four) (start.unlabelled four))))
+    ∙ checkpoint_start_is c (start.gapless four) (start.plain four))))
     inr start.is_format
 
 -- so the format of the file is one for what was loaded

@@ -84,7 +84,7 @@ IsWhole-cells i names (c ∷ cs) known fit =
 IsWhole-blocks : (names : List Named) (blocks : List CheckpointBlock) → FitBlocks names blocks → IsWhole (block_lines blocks)
 IsWhole-blocks names [] fit = refl
 IsWhole-blocks names (b ∷ bs) fit =
-    IsWhole-line (block_line b) (block_lines bs) (checkpoints_begin_with_braces.2 b.ticket b.waiting.block.text b.label (delivery_of_block b)) (waiting_one_line names b.ticket b.waiting.block b.label (delivery_of_block b) fit.0)
+    IsWhole-line (block_line b) (block_lines bs) (checkpoints_begin_with_braces.2 b.ticket b.waiting.block.text b.cause b.label (delivery_of_block b)) (waiting_one_line names b.ticket b.waiting.block b.cause b.label (delivery_of_block b) fit.0)
     (IsWhole-blocks names bs fit.1)
 
 IsWhole-checkpoint : (format : ℕ) (c : CheckpointView) → IsCheckpointFormat format → CheckpointFits c → IsWhole (checkpoint_text format (length c.blocks) c)
@@ -149,7 +149,7 @@ events_fit format s (e ∷ es) are = (are.0, are.1, events_fit format (after s e
 
 fits_before : (format : ℕ) (table : List Declared) (o : Option CheckpointView) → IsBefore format table o → FormatFits format o × FitsBefore table o
 fits_before format table None is = (is.0, is.2)
-fits_before format table (Some c) is = let r = is.1 in ((r.is_format, r.gapless, r.unlabelled), r.fits)
+fits_before format table (Some c) is = let r = is.1 in ((r.is_format, r.gapless, r.plain), r.fits)
 
 -- what has a text can be in lines
 pub fits_again : (start : Start) (events : List Event) → HasText start events → FitLines start (first_state start) events

@@ -26,7 +26,7 @@ use Rattle.stm_event_lines.specs.Lines.{declaring_format}
 use Rattle.stm_event_lines.specs.WholeBlocks.{CheckedAreWellTyped}
 use Rattle.stm_event_lines.proofs.CheckedBlocks.{checked_blocks_stay}
 use Rattle.stm_history.specs.Judgement.{FitCells, FitBlocks, FitsBefore, FormatFits}
-use Rattle.stm_history.specs.Starts.{AreOfText, BlocksAreOfText, are_unlabelled, declares, format_of_start, is_declaration, is_labelling, labels_blocks}
+use Rattle.stm_history.specs.Starts.{AreOfText, BlocksAreOfText, are_plain_blocks, declares, format_of_start, is_declaration, is_labelling, labels_blocks}
 use Rattle.stm_history.proofs.KeptIsTaken.{written_fits}
 use Rattle.stm_durable.specs.Durable.{AreFit, IsFormatFor}
 use Rattle.stm_desk.specs.DeskView.{start_state}
@@ -200,7 +200,7 @@ none_back (x ∷ xs) ys e = none_back xs ys (first_and_others x (xs ++ ys) e).1
 
 start_format : (o : Option CheckpointView) → format_of_start o ≢ 1
 start_format None = λ e. cc e
-start_format (Some c) = by (is_gapless c.names && are_unlabelled c.blocks)
+start_format (Some c) = by (is_gapless c.names && are_plain_blocks c.blocks)
   where
     by : (b : Bool) → (if b then checkpoint_format else declaring_format) ≢ 1
     by true = λ e. cc e
@@ -239,7 +239,7 @@ held_fits store b (Some h) typed covered action right r = (r.0, delivery_fits st
 blocks_fit : (names : List Named) (store : List Cell) (n k : ℕ) (bs : List CheckpointBlock) → StoreIsTyped (plains store) → AreCheckpointBlocks store n k bs → AreOfText names bs → AreBlocksInRange bs → FitBlocks names bs
 blocks_fit names store n k [] typed a t r = tt
 blocks_fit names store n k (b ∷ bs) typed a t r = (
-  (r.0.0, t.0, held_fits store b b.waiting.held typed a.2.covered a.2.typed a.2.delivery r.0.1, a.2.label),
+  (r.0.0, t.0, r.0.2, held_fits store b b.waiting.held typed a.2.covered a.2.typed a.2.delivery r.0.1, a.2.label),
   blocks_fit names store n b.ticket bs typed a.3 t.1 r.1,
 )
 

@@ -11,6 +11,7 @@ use Rattle.stm_terms.specs.declared.verdicts.Verdict.TheVariants.{Commits, Throw
 use Rattle.stm_events.specs.declared.event.Event.{Event}
 use Rattle.stm_events.specs.declared.event.What.{What}
 use Rattle.stm_events.specs.declared.event.What.TheVariants.{Submitted, Installed, Finished, Cancelled, Declared as DeclaredLate, Labelled}
+use Rattle.stm_event_lines.specs.CheckpointLines.{FitsCause}
 use Rattle.stm_event_lines.specs.Fits.{Is32Bit, FitsInt, FitsValue, FitWrites}
 
 -- the values of new variables are in range
@@ -54,9 +55,9 @@ abbrev pub IsHeldInRange : Option Held → Type 0
 IsHeldInRange None = ⊤
 IsHeldInRange (Some h) = FitWrites h.reads × IsInRange h.verdict
 
--- so of a waiting block, with its ticket
+-- so of a waiting block, with its ticket and with why it is stale, if that is known
 abbrev pub IsBlockInRange : CheckpointBlock → Type 0
-IsBlockInRange b = Is32Bit b.ticket × IsHeldInRange b.waiting.held
+IsBlockInRange b = Is32Bit b.ticket × IsHeldInRange b.waiting.held × FitsCause b.cause
 
 -- so of each waiting block
 abbrev pub AreBlocksInRange : List CheckpointBlock → Type 0

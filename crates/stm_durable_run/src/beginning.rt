@@ -2,7 +2,7 @@
 
 ghost use Rattle.std.specs.Prelude.{◌≡◌, Some, true, OnOk};
 ghost use Rattle.stm_machine.specs.Checkpoints.{MayStart};
-ghost use Rattle.stm_desk.specs.DeskView.{checkpoint_now};
+ghost use Rattle.stm_desk.specs.Checkpointed.{checkpoint_now};
 ghost use Rattle.stm_journal.specs.Replacing.{OnRefused, journal_result};
 ghost use Rattle.stm_run.specs.declared.console.Console.TheVariants.{Open as IsOpen};
 ghost use Rattle.stm_run.specs.ConsoleState.{present_desk, is_open, table_of, with_checkpoint};

@@ -2,9 +2,11 @@
 //! anything.
 
 ghost use Rattle.std.specs.Prelude.{◌<◌, IfSome, length, slice_get};
+ghost use Rattle.stm_event_lines.specs.CheckpointLines.{FitsCause};
 ghost use Rattle.stm_durable_run.specs.Ranges.{AreBlocksInRange, AreCellsInRange, AreEventsInRange, AreValuesInRange, IsBlockInRange, IsCellInRange, IsEventInRange, IsHeldInRange, IsInRange};
 
 use stm_event_lines::drafted::{number_in_range, value_in_range, writes_in_range};
+use stm_events::kept_cause::KeptCause;
 use stm_events::{Event, SharedVerdict, What};
 use stm_machine::CheckpointBlock;
 use stm_store::Store;
@@ -99,12 +101,26 @@ fn held_in_range(held: &Option<Held>)
     }
 }
 
+/// Why a block is stale is in range, if that is known.
+fn cause_in_range(cause: &Option<KeptCause>)
+    ensures { FitsCause cause.now }
+{
+    match cause {
+        None => {}
+        Some(cause) => {
+            number_in_range(cause.finish);
+            writes_in_range(cause.left.as_slice());
+        }
+    }
+}
+
 /// A waiting block of a checkpoint is in range.
 fn block_in_range(block: &CheckpointBlock)
     ensures { IsBlockInRange block.now }
 {
     number_in_range(block.ticket);
     held_in_range(&block.waiting.held);
+    cause_in_range(&block.cause);
 }
 
 /// The waiting blocks of a checkpoint are in range.

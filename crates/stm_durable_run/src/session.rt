@@ -14,7 +14,7 @@ ghost use Rattle.stm_run.specs.declared.console.Console.{Console as AnyConsole};
 ghost use Rattle.stm_run.specs.Abstraction.{IsStep};
 ghost use Rattle.stm_run.specs.Console.{step};
 ghost use Rattle.stm_machine.specs.Checkpoints.{MayStart};
-ghost use Rattle.stm_desk.specs.DeskView.{checkpoint_now};
+ghost use Rattle.stm_desk.specs.Checkpointed.{checkpoint_now};
 ghost use Rattle.stm_commands.specs.Checkpointing.{are_tickets_full};
 ghost use Rattle.stm_run.specs.declared.console.Console.TheVariants.{Open as IsOpen};
 ghost use Rattle.stm_run.specs.ConsoleState.{present_desk, is_open, table_of, events_of, with_checkpoint};

@@ -16,6 +16,7 @@ use Rattle.stm_eval.specs.contracts.job.Job as job
 use Rattle.stm_eval.specs.contracts.message.Evaluated as message
 use Rattle.stm_pool.specs.contracts.slot.Slot as slot
 use Rattle.stm_terms.specs.contracts.verdicts.Verdict as verdict
+use Rattle.stm_events.specs.contracts.kept_cause.KeptCause as kept_cause
 use Rattle.stm_events.specs.contracts.label_table.LabelTable as label_table
 use Rattle.stm_events.specs.contracts.shared_name.SharedName as shared_name
 use Rattle.stm_events.specs.contracts.shared_verdict.SharedVerdict as shared_verdict
@@ -74,7 +75,10 @@ pub shared_name_send : IsSend shared_name.the_row
 shared_name_send = search (sendable, crosses) depth 40 fits 100000
 
 pub label_table_send : IsSend label_table.the_row
-label_table_send = search (sendable, crosses, shared_name_send) depth 40 fits 100000
+label_table_send = search (sendable, crosses, maps_crosses, shared_name_send) depth 30 fits 20000
+
+pub kept_cause_send : IsSend kept_cause.the_row
+kept_cause_send = search (sendable, crosses) depth 30 fits 20000
 
 pub event_send : IsSend event.the_row
 event_send = search (sendable, block_send, shared_name_send, shared_verdict_send, tickets_send) depth 40 fits 100000
@@ -101,7 +105,7 @@ pub machine_send : IsSend machine.the_row
 machine_send = search (sendable, crosses, maps_crosses, store_send, blocks_send, pending_send) depth 40 fits 100000
 
 pub checkpoint_block_send : IsSend checkpoint_block.the_row
-checkpoint_block_send = declared_send checkpoint_block.the_type (search (sendable, crosses), (search (sendable, waiting_send), (search (sendable, crosses), (search (sendable, shared_name_send), tt))))
+checkpoint_block_send = declared_send checkpoint_block.the_type (search (sendable, crosses), (search (sendable, waiting_send), (search (sendable, crosses), (search (sendable, kept_cause_send) depth 20, (search (sendable, shared_name_send), tt)))))
 
 pub checkpoint_send : IsSend checkpoint.the_row
 checkpoint_send = search (sendable, crosses, store_send, checkpoint_block_send) depth 40 fits 100000
