@@ -2,7 +2,7 @@
 docs/CONSOLE.md, with an evaluator of its own. It knows no types but those of variables.
 
 It keeps the whole past: of each waiting block the store of its last delivery, and of each stale one the finish that made it so. A checkpoint
-does nothing to it, but that `why` of a block that is stale already and the number of events are as after one.
+does nothing to it, but that the number of events is as after one.
 """
 
 import math
@@ -330,11 +330,8 @@ class Desk:
         return [f"reads {reads_text(self.outcome(blocks.parsed(text, self.names), self.cells)[1])}"]
 
     def do_checkpoint(self, _):
-        """The only trace: the number of events, and that a block is stale already."""
+        """The only trace: the number of events."""
         count, self.events = self.events, 0
-        for waiter in self.waiters.values():
-            if waiter.stale:
-                waiter.stale = "stale checkpoint"
         return [f"checkpoint {count}"]
 
     def restart(self):

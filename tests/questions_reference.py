@@ -27,7 +27,7 @@ class Waiter:
     def __init__(self, text, names):
         self.text, self.action, self.store_then, self.changed = text, blocks.parsed(text, names), None, set()
         self.label = ""  # the empty text if it has none
-        self.was_stale = False  # when the history began, and there was no delivery since
+        self.was_stale, self.cause = False, None  # when the history began, and there was no delivery since; and why, if that is known
 
     def on(self, store):
         """Its verdict on a store, and what it reads there, ascending, with the values."""
@@ -69,6 +69,8 @@ class Reference:
             waiter.deliver(with_values(self.store, line["reads"]))
             if line["stale"]:
                 waiter.changed, waiter.was_stale = {number for number, _ in line["reads"]}, True
+                if "cause" in line:
+                    waiter.cause = line["cause"], dict(line["changed"])
 
     def follow(self, line):
         """Takes in the line of one more event."""
@@ -126,10 +128,15 @@ class Reference:
             return "refused NoTicket"
         if waiter.store_then is None:
             return f"why {ticket} new"
-        if waiter.was_stale:
+        if waiter.was_stale and waiter.cause is None:
             return f"why {ticket} stale checkpoint"
         if not waiter.is_current():
-            finish, changes = self.cause(ticket, waiter.on(waiter.store_then)[1])
+            reads = waiter.on(waiter.store_then)[1]
+            if waiter.was_stale:
+                finish, left = waiter.cause
+                changes = {it: (value, histories.Replay.value(left[it], None)) for it, value in reads.items() if it in left}
+            else:
+                finish, changes = self.cause(ticket, reads)
             shown = [f"#{it}={histories.shown(old)}->{histories.shown(new)}" for it, (old, new) in changes.items()]
             return " ".join([f"why {ticket} stale {finish}", *shown])
         if self.is_ready(ticket):

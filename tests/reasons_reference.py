@@ -220,9 +220,9 @@ class Reasons(Reference):
 
     def checkpoint(self):
         """The lines before the first event of a history that begins from here: in format 5 if a name comes after a variable without one, or if a
-        block has a label."""
-        names = {number: name for name, (_, number) in self.names.items()}
-        is_late = any(it >= len(names) for it in names) or any(it.label for it in self.waiters.values())
+        block has a label or a cause."""
+        names, causes = {number: name for name, (_, number) in self.names.items()}, {it: self.kept_cause(it) for it in self.waiters}
+        is_late = any(it >= len(names) for it in names) or any(it.label for it in self.waiters.values()) or any(causes.values())
         lines = [{"format": 5 if is_late else 4, "next": self.next, "vars": len(self.store), "waiting": len(self.waiters)}]
         for number, value in enumerate(self.store):
             lines.append({"count": self.counts[number], "init": self.value(value), "name": names.get(number), "type": self.types.kinds[number]})
@@ -232,7 +232,19 @@ class Reasons(Reference):
                 verdict, reads = waiter.on(waiter.store_then)
                 lines[-1] |= {"reads": [[it, self.value(value)] for it, value in reads.items()], "verdict": self.verdict(verdict)}
                 lines[-1]["stale"] = not waiter.is_current()
+            if causes[ticket]:
+                lines[-1]["cause"], lines[-1]["changed"] = causes[ticket]
         return [text(it) for it in lines]
+
+    def kept_cause(self, ticket):
+        """Of a stale block the ticket of the finish that made it so, and what that left of what it had read, if it is known; else None."""
+        waiter = self.waiters[ticket]
+        if waiter.store_then is None or waiter.is_current():
+            return None
+        if waiter.was_stale:
+            return waiter.cause and (waiter.cause[0], [[it, value] for it, value in sorted(waiter.cause[1].items())])
+        finish, changes = self.cause(ticket, waiter.on(waiter.store_then)[1])
+        return finish, [[it, self.value(left)] for it, (_, left) in sorted(changes.items())]
 
     def stale_after(self, ticket):
         """The current tickets that the finish of this one makes stale."""
@@ -375,12 +387,24 @@ class Beginning:
         if label:
             need(self.head["format"] == 5)
             line["label"] = label
+        if "cause" in found:
+            need(self.head["format"] == 5 and "verdict" in found)
+            line |= {"cause": number_of(found["cause"]), "changed": list_of(found.get("changed"), write_of)}
         if "verdict" not in found:
             return line
         line |= {"verdict": verdict_of(found["verdict"]), "reads": list_of(found.get("reads"), write_of), "stale": found.get("stale")}
         need(isinstance(line["stale"], bool))
         self.judge_delivery(line)
+        if "cause" in line:
+            self.judge_cause(line)
         return line
+
+    def judge_cause(self, line):
+        read, numbers = dict(line["reads"]), [number for number, _ in line["changed"]]
+        need(line["stale"] and 0 < line["cause"] < self.head["next"] and numbers and numbers == sorted(set(numbers)))
+        for number, value in line["changed"]:
+            need(number in read and value != read[number])
+            self.types().need(self.variables[number]["type"], value)
 
     def judge_delivery(self, line):
         reads, numbers = line["reads"], [number for number, _ in line["reads"]]

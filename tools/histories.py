@@ -162,6 +162,8 @@ def need_waiting(it: Object) -> None:
     need_number(it["ticket"])
     need_text(it["block"])
     need_text(it.get("label", ""))
+    need_number(it.get("cause", 0))
+    need_pairs(it.get("changed", []), need_number)
     if "verdict" in it:
         need_verdict(it["verdict"])
         need_pairs(it["reads"], need_number)

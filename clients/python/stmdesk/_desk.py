@@ -383,8 +383,8 @@ class Desk:
         return self._ask(READS, decimal(ticket))
 
     def why(self, ticket: int) -> Reason:
-        """What a waiting ticket waits for: an evaluation, since it is `New` or `StaleBy` a finish (`StaleBefore` if that came before
-        a checkpoint); a change of what it has read, since it `Waits`; or nothing but its finish, since it is `Ready`.
+        """What a waiting ticket waits for: an evaluation, since it is `New` or `StaleBy` a finish (`StaleBefore` if a
+        checkpoint of an old version doesn't say which); a change of what it has read, since it `Waits`; or nothing but its finish, since it is `Ready`.
 
         >>> reader, writer = desk.submit("do { a <- readTVar x; if a < 5 then retry else return a }"), desk.submit("writeTVar x 3")
         >>> desk.why(reader), desk.eval(), desk.why(reader)

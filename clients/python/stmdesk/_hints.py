@@ -176,7 +176,9 @@ def script_hint(reason: str, place: int | None, word: str, text: str, types: Map
     if reason == "Late" and word not in ("tvar", "always", "never", "eventually"):
         return "`repeat` is the last line of its section"
     if reason == "Argument":
-        return "`client` takes nothing" if word == "client" else f"`{word}` takes the number of a `submit` above it in its section, counted from 1"
+        if word == "client":
+            return "`client` takes nothing, or how many clients do the same: a number from 1 to 64"
+        return f"`{word}` takes the number of a `submit` above it in its section, counted from 1"
     if word in ("assert", "eventually") and reason == "Mismatch" and place == 0:
         return f"the block of an `{word}` returns a Bool"
     if reason in _SCRIPT_NAMES:

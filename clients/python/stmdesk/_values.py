@@ -198,12 +198,10 @@ class StaleBy:
 
 @dataclass(frozen=True)
 class StaleBefore:
-    """A stale block that was stale already at the last checkpoint. The finish that made it so isn't in the history any more.
+    """A stale block that was stale already at a checkpoint of version 0.17 or earlier, which doesn't say which finish made it so. Later
+    versions know it over a checkpoint, so this is of old journals alone.
 
-    >>> reader, writer = desk.submit("readTVar x"), desk.submit("writeTVar x 5")
-    >>> desk.eval(), desk.finish(writer).stale, desk.checkpoint()
-    (2, [1], 5)
-    >>> desk.why(reader)
+    >>> StaleBefore(1)
     StaleBefore(ticket=1)
     """
 

@@ -239,6 +239,14 @@ class Explorations(OnProgram):
         self.assert_is(lost.order, self.explore(LOST).order)
         self.assertEqual(lost.history(), self.explore(LOST).history())
 
+    def test_equal_clients(self):
+        lines = "submit do { a <- readTVar x; writeTVar x (a + 1) }\nfinish 1\nassert do { a <- readTVar x; return (a < 3) }\n"
+        found = self.explore("tvar x : Int = 0\nclient 3\n" + lines)
+        self.assert_is((found.outcome, found.line, found.order), ("failed", 5, (0, 1, 2)))
+        self.assert_is([(it.client, it.line, it.what) for it in found.clients], [(it, 5, "fails") for it in range(3)])
+        written_out = self.explore("tvar x : Int = 0\n" + ("client\n" + lines) * 3)
+        self.assert_is((written_out.outcome, written_out.order), (found.outcome, found.order))
+
     def test_values(self):
         declared = ("x : Int = (-7)", "r : TVar Int = x", "deep : TVar (TVar Int) = r", "flag : Bool = True", "u : () = ()")
         lines = [*(f"tvar {it}" for it in declared), "client", "submit do { n <- newTVar 5; writeTVar r n }", "finish 1"]
@@ -358,7 +366,6 @@ class Explorations(OnProgram):
                 "throws 2",
                 "hint: `throws` takes the number of a `submit` above it in its section, counted from 1",
             ),
-            "client 1\n": ("line 3 of the script is refused: Argument", "client 1", "hint: `client` takes nothing"),
             "client\nchoose x 1 1\n": (
                 "line 4 of the script is refused: Argument",
                 "choose x 1 1",
@@ -374,6 +381,12 @@ class Explorations(OnProgram):
                 "expect x 0",
                 "hint: `repeat` is the last line of its section",
             ),
+            "client 65\n": (
+                "line 3 of the script is refused: Argument",
+                "client 65",
+                "hint: `client` takes nothing, or how many clients do the same: a number from 1 to 64",
+            ),
+            "client 64\nclient\n": ("line 4 of the script is refused: ClientsFull", "client", "hint: a script has at most 64 clients"),
             "client\ntvar y : Int = 0\n": (
                 "line 4 of the script is refused: Late",
                 "tvar y : Int = 0",

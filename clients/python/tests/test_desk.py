@@ -8,7 +8,7 @@ import threading
 import stmdesk
 from stmdesk import (
     Blocks, Cancellation, Cell, Change, Commits, Current, Delivery, Finish, Finished, FinishedThrows, Job, New, NewRef, Ready, Ref,
-    Settled, Stale, StaleBefore, StaleBy, Submission, Throws, Waits,
+    Settled, Stale, StaleBy, Submission, Throws, Waits,
 )  # fmt: skip
 from tests.common import FLAG, INCREMENT, SECONDS, X, OnProgram, cell, library, new_desk, program
 
@@ -261,8 +261,8 @@ class Histories(OnProgram):
             shown, store = desk.show(), desk.store()
             self.assert_is((desk.checkpoint(), desk.checkpoint()), (5, 0))
             self.assert_is((desk.show(), desk.store(), desk.events()), (shown, store, []))
-            self.assert_is(desk.why(reader), StaleBefore(reader))
-            self.assertTrue(desk.history().startswith('{"format":4,"next":3,"vars":1,"waiting":1}\n'))
+            self.assert_is(desk.why(reader), StaleBy(reader, writer, {x: Change(1, 5)}))
+            self.assertTrue(desk.history().startswith('{"format":5,"next":3,"vars":1,"waiting":1}\n'))
             with desk.batch() as batch:
                 evaluated, finished, count = batch.eval(), batch.finish(reader), batch.checkpoint()
             self.assert_is((evaluated.result(), finished.result(), count.result()), (1, Finished(reader, 5, []), 2))

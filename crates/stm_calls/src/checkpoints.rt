@@ -62,7 +62,7 @@ fn add(
     delivery: Option<Delivery>,
     out: &mut String,
 ) -> Result<(), AllocError> {
-    match checkpoint.add(alloc, ticket, block, delivery, SharedName::none()) {
+    match checkpoint.add(alloc, ticket, block, delivery, None, SharedName::none()) {
         Ok(()) => say("done", out),
         Err(AddError::NoMemory) => Err(AllocError),
         Err(refusal) => writeln!(out, "refused {refusal:?}"),

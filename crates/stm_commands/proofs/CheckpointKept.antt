@@ -8,9 +8,10 @@ use Rattle.stm_store.specs.Naming.{Named}
 use Rattle.stm_check.specs.TypedBlock.{Block}
 use Rattle.stm_events.specs.SlowDesk.{Slow, Waiter, find_waiter}
 use Rattle.stm_events.specs.States.{IsTicketOf, IsLegalFrom}
-use Rattle.stm_machine.specs.Checkpoints.{waiter_of, checkpoint_state, checkpoint_of, block_of_waiter, MayStart}
-use Rattle.stm_machine.proofs.CheckpointLabels.{same_state}
-use Rattle.stm_desk.specs.DeskView.{DeskView, start_state, state_of, labels_of, checkpointed}
+use Rattle.stm_machine.specs.Checkpoints.{waiter_of, checkpoint_state, checkpoint_of, with_labels, block_of_waiter, MayStart}
+use Rattle.stm_machine.proofs.CheckpointLabels.{same_state, caused_state}
+use Rattle.stm_desk.specs.DeskView.{DeskView, start_state, state_of, labels_of}
+use Rattle.stm_desk.specs.Checkpointed.{causes_of, checkpointed}
 use Rattle.stm_commands.specs.declared.jobs.KeptJob.{KeptJob}
 use Rattle.stm_commands.specs.OpenDesk.{HandedOut}
 use Rattle.stm_commands.specs.OpenInvariant.{job_kept, HaveStores, JobsStand, IsPresentCopy, NamesFollow, OpenInvariant}
@@ -63,9 +64,9 @@ ticket_again s b t k = record {
   waits = λ w e. let x = waits_again s t w e in x.block ∙ k.waits x.before x.found;
 }
 
--- the labels of its blocks are no part of the state
+-- the labels and causes of its blocks are no part of the state
 now_again : (d : DeskView) → checkpoint_state (checkpoint_of (state_of d)) ≡ state_of (checkpointed d)
-now_again d = sym (same_state (labels_of d) (checkpoint_of (state_of d)))
+now_again d = sym (caused_state (causes_of d) (with_labels (labels_of d) (checkpoint_of (state_of d))) ∙ same_state (labels_of d) (checkpoint_of (state_of d)))
 
 stand_again : (d : DeskView) (js : List HandedOut) → JobsStand d js → JobsStand (checkpointed d) js
 stand_again d [] s = tt

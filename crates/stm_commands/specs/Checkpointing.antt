@@ -1,7 +1,8 @@
 -- `checkpoint`: the history begins from where the desk is.
 use Rattle.std.specs.Prelude.{ℕ, Bool, false, ◌&&◌, not, nat_lt, nat_le, if◌then◌else◌, List, [], ◌∷◌, ◌++◌, codes, decimal, length}
 use Rattle.stm_machine.specs.Checkpoints.{max_next}
-use Rattle.stm_desk.specs.DeskView.{state_of, checkpointed}
+use Rattle.stm_desk.specs.DeskView.{state_of}
+use Rattle.stm_desk.specs.Checkpointed.{checkpointed}
 use Rattle.stm_commands.specs.Arguments.{with_nothing, argument_refused}
 use Rattle.stm_commands.specs.OpenDesk.{OpenDesk}
 use Rattle.stm_commands.specs.Refusals.{refused}

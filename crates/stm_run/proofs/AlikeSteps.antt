@@ -1,5 +1,5 @@
 -- Desks of which the same is observed do the same at each command, unless one of them tells that its history has no room.
-use Rattle.std.proofs.Common.{◌≡◌, ◌⊎◌, inl, inr, ℕ, zero, suc, ◌+◌, ◌-◌, ◌≤◌, Bool, true, false, cond, not, List, [], ◌∷◌, ◌++◌, map, length, Option, Some, None, Result, Ok, Err, refl, sym, ap, ap₂, ◌∙◌, subst, arith}
+use Rattle.std.proofs.Common.{◌≡◌, ◌⊎◌, inl, inr, ℕ, zero, suc, ◌+◌, ◌-◌, ◌≤◌, Bool, true, false, cond, not, List, [], ◌∷◌, ◌++◌, length, Option, Some, None, Result, Ok, Err, refl, sym, ap, ap₂, ◌∙◌, subst, arith}
 use Rattle.std.specs.Prelude.{nat_lt, nat_le, codes, is_some, take, option_map, IsTrue}
 use Rattle.std.proofs.lemmas.Bool.Decides.{nat_tests}
 use Rattle.stm_terms.specs.declared.values.Value.{Value}
@@ -31,7 +31,7 @@ use Rattle.stm_events.specs.declared.event.What.{What}
 use Rattle.stm_events.specs.declared.event.What.TheVariants.{Submitted, Installed, Finished, Cancelled, Declared as DeclaredLate, Labelled}
 use Rattle.stm_events.specs.Answers.{AnswersAlike, install_answer}
 use Rattle.stm_events.specs.Labels.{is_label}
-use Rattle.stm_events.specs.SlowAtomically.{install_at_once, atomically}
+use Rattle.stm_events.specs.SlowAtomically.{install_at_once, atomically, AllowsEach}
 use Rattle.stm_events.specs.declared.staleness.StalenessRule.{StalenessRule}
 use Rattle.stm_events.specs.declared.staleness.StalenessRule.TheVariants.{Changed}
 use Rattle.stm_events.proofs.Atomically.{whats_waiting, whats_ending}
@@ -41,7 +41,7 @@ use Rattle.stm_desk.specs.declared.errors.AtomicError.{AtomicError}
 use Rattle.stm_desk.specs.declared.errors.AtomicError.TheVariants as atomic
 use Rattle.stm_events.specs.Laws.{IsWellTyped}
 use Rattle.stm_events.specs.Refusals.{missing, submit_first, submit_refused, declare_first, late_declare_refused, label_first, label_refused, cancel_first, cancel_refused, differing, overtaken_first, install_first, pending_left, blocks_there, overflows, finish_first, finish_refused}
-use Rattle.stm_events.specs.SlowDesk.{Waiter, Slow, under, verdict_on, waking, is_blocks, is_new, is_current, find_waiter, without_waiter, stale_after, max_cells, max_waiting, after, Allows, LegalFrom}
+use Rattle.stm_events.specs.SlowDesk.{Waiter, Slow, under, verdict_on, waking, is_blocks, is_new, is_current, find_waiter, without_waiter, stale_after, max_cells, max_waiting, after, Allows}
 use Rattle.stm_events.specs.SlowSettle.{Order, next_what, has_cells, settle_on, running, Stop, NoRoom, NoCells, stop_on, run_stop, finishes, installs}
 use Rattle.stm_events.specs.SlowDrain.{next_drain}
 use Rattle.stm_events.specs.States.{IsPossible}
@@ -63,11 +63,11 @@ use Rattle.stm_commands.specs.Labelling.{label_ticket_step}
 use Rattle.stm_commands.specs.OpenDesk.{HandedOut}
 use Rattle.stm_commands.specs.Refusals.{refused}
 use Rattle.stm_run.specs.Unseen.{TellsFull}
-use Rattle.stm_run.proofs.RunAtOnce.{each_legal, run_allowed}
+use Rattle.stm_run.proofs.RunAtOnce.{EachTyped, run_allowed, run_typed}
 use Rattle.stm_run.proofs.DeliveredJobs.{next_stands, queued_stand}
 use Rattle.stm_run.proofs.DeskMoves.{submitted_stands, declared_stands, finished_stands, cancelled_stands, labelled_stands}
 use Rattle.stm_run.proofs.LegalSettling.{IsAllowed, IsLawful, next_allowed, drain_allowed}
-use Rattle.stm_run.proofs.LookingAlike.{AlikeDesks, same_store, same_next, same_waiters, same_found, same_answers, alike_event, allowed_by, alike_pending, full_too, same_refusal, jobs_alike}
+use Rattle.stm_run.proofs.LookingAlike.{AlikeDesks, MayHappen, same_store, same_next, same_waiters, same_found, same_answers, alike_event, allowed_by, alike_pending, full_too, same_refusal, jobs_alike}
 use Rattle.stm_run.proofs.StandingDesk.{Stands, state_later}
 use Rattle.stm_run.proofs.DeclaredVariables.{LateOrTold}
 use Rattle.stm_run.proofs.TextsJudged.{BlockOrTold}
@@ -469,25 +469,30 @@ run_same next b (suc room) (suc room') s l n =
     let p = next_same next b s room room' (next s) (λ what. run_same next b room room' (after s what) (lower_room b room room' l)) n in
     record { whats = p.0; stop = p.1 }
 
-after_legal : (next : Order) (s : Slow) (room : ℕ) (what : What) (c : Bool) → has_cells s what ≡ c → IsAllowed s (Some what) → (Allows s what → LegalFrom (after s what) (map (event 0) (running next room (after s what))))
-    → LegalFrom s (map (event 0) (AfterIt next c s room what))
-after_legal next s room what true e a more = (record { client = omega arith; what = (a e).0 }, more (a e).0)
+-- each of these may happen in its turn
+abbrev MayHappenFrom : Slow → List What → Type 0
+MayHappenFrom s [] = Unit {0}
+MayHappenFrom s (x ∷ xs) = MayHappen s x × MayHappenFrom (after s x) xs
+
+after_legal : (next : Order) (s : Slow) (room : ℕ) (what : What) (c : Bool) → has_cells s what ≡ c → IsAllowed s (Some what) → (Allows s what → MayHappenFrom (after s what) (running next room (after s what)))
+    → MayHappenFrom s (AfterIt next c s room what)
+after_legal next s room what true e a more = (a e, more (a e).0)
 after_legal next s room what false e a more = tt
 
-next_legal : (next : Order) (s : Slow) (room : ℕ) (o : Option What) → IsAllowed s o → ((what : What) → Allows s what → LegalFrom (after s what) (map (event 0) (running next room (after s what))))
-    → LegalFrom s (map (event 0) (settle_on (running next room) s o))
+next_legal : (next : Order) (s : Slow) (room : ℕ) (o : Option What) → IsAllowed s o → ((what : What) → Allows s what → MayHappenFrom (after s what) (running next room (after s what)))
+    → MayHappenFrom s (settle_on (running next room) s o)
 next_legal next s room None a more = tt
 next_legal next s room (Some what) a more = after_legal next s room what (has_cells s what) refl a (more what)
 
-run_legal : (next : Order) → IsLawful next → (room : ℕ) (s : Slow) → IsPossible s → LegalFrom s (map (event 0) (running next room s))
+run_legal : (next : Order) → IsLawful next → (room : ℕ) (s : Slow) → IsPossible s → MayHappenFrom s (running next room s)
 run_legal next lawful zero s p = tt
 run_legal next lawful (suc room) s p = next_legal next s room (next s) (lawful s p.rising) (λ what a. run_legal next lawful room (after s what) (possible_after s what p a))
 
-whats_alike : (b : Bool) (xs : List What) (d d' : DeskView) → LegalFrom (state_of d) (map (event 0) xs) → AlikeDesks b d d' → AlikeDesks b (with_whats d 0 xs) (with_whats d' 0 xs)
+whats_alike : (b : Bool) (xs : List What) (d d' : DeskView) → MayHappenFrom (state_of d) xs → AlikeDesks b d d' → AlikeDesks b (with_whats d 0 xs) (with_whats d' 0 xs)
 whats_alike b [] d d' l k = k
 whats_alike b (x ∷ xs) d d' l k =
     whats_alike b xs (with_event d 0 x) (with_event d' 0 x)
-    (subst (λ (s : Slow). LegalFrom s (map (event 0) xs)) (sym (state_later (start_state d) d.history (event 0 x))) l.1) (alike_event b d d' x l.0.what k)
+    (subst (λ (s : Slow). MayHappenFrom s xs) (sym (state_later (start_state d) d.history (event 0 x))) l.1) (alike_event b d d' x l.0 k)
 
 fewer_room : (l m n : ℕ) → m ≤ n → l - n ≤ l - m
 fewer_room l m n h = omega arith
@@ -590,14 +595,18 @@ atomic_same b d d' block k n =
     same_refusal first atomic.HistoryFull (atomic_either (missing (plains s.store) block.uses) many crowded) b (lacks_room d needed) (lacks_room d' needed) (lacks_too b d d' needed k)
     (λ e. n.0 (atomic_full d block (atomic_refusal d block) e)) (λ q e. n.1 q (atomic_full d' block (atomic_refusal d' block) (sym there ∙ e))) ∙ there
 
-atomic_by : (b : Bool) (d d' : DeskView) (jobs : List HandedOut) (block : Block) → Stands d jobs → AlikeDesks b d d' → (o : Option AtomicError) → atomic_refusal d block ≡ o
+each_may_happen : (s : Slow) (xs : List What) → AllowsEach s xs → EachTyped xs → MayHappenFrom s xs
+each_may_happen s [] a w = tt
+each_may_happen s (x ∷ xs) a w = ((a.0, w.0), each_may_happen (after s x) xs a.1 w.1)
+
+atomic_by : (b : Bool) (d d' : DeskView) (jobs : List HandedOut) (block : Block) → IsWellTyped block → Stands d jobs → AlikeDesks b d d' → (o : Option AtomicError) → atomic_refusal d block ≡ o
     → AlikeSteps b (atomically_block_step d block o) (atomically_block_step d' block o)
-atomic_by b d d' jobs block st k (Some x) e = record { desks = k; text = refl }
-atomic_by b d d' jobs block st k None e =
+atomic_by b d d' jobs block w st k (Some x) e = record { desks = k; text = refl }
+atomic_by b d d' jobs block w st k None e =
     let xs = atomically (state_of d) block in
     let same = run_same_whats b d d' block k in
     record {
-      desks = subst (λ (ys : List What). AlikeDesks b (with_whats d 0 xs) (with_whats d' 0 ys)) same (whats_alike b xs d d' (each_legal (state_of d) xs (run_allowed d jobs block e st)) k);
+      desks = subst (λ (ys : List What). AlikeDesks b (with_whats d 0 xs) (with_whats d' 0 ys)) same (whats_alike b xs d d' (each_may_happen (state_of d) xs (run_allowed d jobs block e st) (run_typed (state_of d) block w)) k);
       text = ap ran_text same;
     }
 
@@ -606,4 +615,4 @@ pub atomically_alike : (b : Bool) (d d' : DeskView) (jobs : List HandedOut) (r :
 atomically_alike b d d' jobs (Err x) h st k n = record { desks = k; text = refl }
 atomically_alike b d d' jobs (Ok block) h st k n =
     subst (λ (o : Option AtomicError). AlikeSteps b (atomically_block_step d block (atomic_refusal d block)) (atomically_block_step d' block o)) (atomic_same b d d' block k n)
-    (atomic_by b d d' jobs block st k (atomic_refusal d block) refl)
+    (atomic_by b d d' jobs block h.0 st k (atomic_refusal d block) refl)

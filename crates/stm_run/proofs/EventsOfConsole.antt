@@ -26,6 +26,7 @@ use Rattle.stm_events.specs.declared.errors.SubmitError.{SubmitError}
 use Rattle.stm_events.specs.declared.event.Event.{Event}
 use Rattle.stm_events.specs.declared.event.What.{What}
 use Rattle.stm_events.specs.declared.event.What.TheVariants.{Submitted, Installed, Finished, Cancelled, Declared as DeclaredLate, Labelled}
+use Rattle.stm_events.specs.declared.kept_cause.KeptCause.{KeptCause}
 use Rattle.stm_events.specs.Labels.{Labels, is_label}
 use Rattle.stm_events.specs.SlowDesk.{Waiter, Slow, verdict_on, is_blocks, find_waiter, without_waiter, delivered as delivered_to, after_writes, with_delivery, after, state_from, waking}
 use Rattle.std.specs.Prelude.{nat_eq}
@@ -33,7 +34,7 @@ use Rattle.stm_events.proofs.Folds.{state-append}
 use Rattle.stm_events.specs.SlowSettle.{lowest, is_due, can_end, installing, ending, next_of, Order, next_what, has_cells, settle_on, running}
 use Rattle.stm_events.specs.SlowDrain.{is_next, drain_of, next_drain}
 use Rattle.stm_machine.specs.Machine.{event}
-use Rattle.stm_machine.specs.Checkpoints.{CheckpointView, waiter_of, block_of_waiter, checkpoint_of, labelled_block, start_of}
+use Rattle.stm_machine.specs.Checkpoints.{CheckpointView, waiter_of, block_of_waiter, checkpoint_of, labelled_block, caused_block, start_of}
 use Rattle.stm_machine.specs.declared.checkpoint.CheckpointBlock.{CheckpointBlock}
 use Rattle.stm_machine.specs.JobsHandedOut.{sent}
 use Rattle.stm_event_lines.proofs.CheckedBlocks.{checked_blocks_stay}
@@ -42,6 +43,7 @@ use Rattle.stm_events.specs.SlowAtomically.{install_at_once}
 use Rattle.stm_desk.specs.declared.errors.AtomicError.{AtomicError}
 use Rattle.stm_desk.specs.Refusals.{submit_refusal, late_declare_refusal, atomic_refusal, finish_refusal, cancel_refusal, label_refusal}
 use Rattle.stm_desk.specs.DeskView.{DeskView, start_state, state_of, labels_of, with_event}
+use Rattle.stm_desk.specs.Checkpointed.{causes_of}
 use Rattle.stm_desk.specs.Settling.{slow_run, requeued_all, with_whats}
 use Rattle.stm_blocks.specs.declared.refusal.Refusal.{Refusal}
 use Rattle.stm_blocks.specs.CompiledBlock.{block_or_refusal, compiled_block}
@@ -494,9 +496,9 @@ pub texts_from : (s : Slow) (es : List Event) → AreOfConsole s es → WaitersA
 texts_from s [] o h = h
 texts_from s (e ∷ es) o h = texts_from (after s e.what) es o.2 (texts_after s e.what o.1 h)
 
-blocks_of_text : (ls : Labels) (known : List Named) (ws : List Waiter) → AreOfTheirTexts known ws → AreOfText known (map (labelled_block ls) (map block_of_waiter ws))
-blocks_of_text ls known [] h = tt
-blocks_of_text ls known (w ∷ ws) h = (h.0, blocks_of_text ls known ws h.1)
+blocks_of_text : (ls : Labels) (causes : ℕ → Option KeptCause) (known : List Named) (ws : List Waiter) → AreOfTheirTexts known ws → AreOfText known (map (caused_block causes) (map (labelled_block ls) (map block_of_waiter ws)))
+blocks_of_text ls causes known [] h = tt
+blocks_of_text ls causes known (w ∷ ws) h = (h.0, blocks_of_text ls causes known ws h.1)
 
 waiters_of_text : (known : List Named) (store : List Cell) (bs : List CheckpointBlock) → AreOfText known bs → AreOfTheirTexts known (map (waiter_of store) bs)
 waiters_of_text known store [] h = tt
@@ -505,7 +507,7 @@ waiters_of_text known store (b ∷ bs) h = (h.0, waiters_of_text known store bs 
 -- a checkpoint has the blocks that wait
 pub checkpoint_texts : (s : Console) → WaitAsTheirTexts s → IfSome (checkpoint_of_console (with_checkpoint s)) BlocksAreOfText
 unfolding checkpoint_of
-checkpoint_texts s h = let d = (present_desk s).desk in let x = state_of d in blocks_of_text (labels_of d) x.names x.waiters h
+checkpoint_texts s h = let d = (present_desk s).desk in let x = state_of d in blocks_of_text (labels_of d) (causes_of d) x.names x.waiters h
 
 pub start_texts : (table : List Declared) (o : Option CheckpointView) → IfSome o BlocksAreOfText → WaitersAreOfText (start_of table o)
 start_texts table None h = tt

@@ -1,5 +1,6 @@
 pub mod AgreeingReads
 pub mod AlikeLabels
+pub mod AlikeReasons
 pub mod AlikeSteps
 pub mod ArgumentCases
 pub mod CommandWords

@@ -7,11 +7,13 @@ use Rattle.stm_check.specs.TypedBlock.{Block}
 use Rattle.stm_store.specs.declared.cell.Cell.{Cell}
 use Rattle.stm_store.specs.Cells.{plains}
 use Rattle.stm_queue.specs.Queue.{Entry}
+use Rattle.stm_events.specs.declared.event.Event.{Event}
 use Rattle.stm_events.specs.declared.event.What.{What}
 use Rattle.stm_events.specs.Answers.{AnswersAlike}
 use Rattle.stm_events.specs.BlockStatus.{read_since_then}
 use Rattle.stm_events.specs.Ready.{is_ready}
 use Rattle.stm_events.specs.Labels.{Labels, label_of}
+use Rattle.stm_events.specs.Laws.{SubmitsWellTyped, SubmittedAreWellTyped}
 use Rattle.stm_events.specs.SlowSettle.{ends}
 use Rattle.stm_events.specs.SlowDesk.{Since, Waiter, Slow, under, find_waiter, Allows}
 use Rattle.stm_events.specs.States.{IsPossible, observed}
@@ -31,6 +33,7 @@ use Rattle.stm_commands.specs.OpenDesk.{HandedOut}
 use Rattle.stm_commands.specs.Questions.{ready_tickets, ready_text}
 use Rattle.stm_commands.specs.Endings.{tickets_text}
 use Rattle.stm_run.proofs.AlikeLabels.{labels_later, after_alike}
+use Rattle.stm_run.proofs.AlikeReasons.{AlikeReasons, reasons_next, reasons_pending}
 use Rattle.stm_run.proofs.StandingDesk.{Stands, state_later}
 
 -- the second has no longer a history than the first, if b says so
@@ -42,6 +45,7 @@ pub record AlikeDesks (b : Bool) (d d' : DeskView) : Type 0 where
   pub possible_too : IsPossible (state_of d')
   pub same : observed (state_of d) ≡ observed (state_of d')
   pub labels : (t : ℕ) → label_of t (labels_of d) ≡ label_of t (labels_of d')
+  pub reasons : AlikeReasons d d'
   pub fewer : b ≡ true → length d'.history ≤ length d.history
 
 pub same_store : (b : Bool) (d d' : DeskView) → AlikeDesks b d d' → (state_of d).store ≡ (state_of d').store
@@ -63,35 +67,54 @@ pub same_answers : (b : Bool) (d d' : DeskView) → AlikeDesks b d d' → Answer
 same_answers b d d' k = observed_answers (state_of d) (state_of d') k.possible k.possible_too k.same
 
 -- ---- one event more
-pub alike_event : (b : Bool) (d d' : DeskView) (what : What) → Allows (state_of d) what → AlikeDesks b d d' → AlikeDesks b (with_event d 0 what) (with_event d' 0 what)
+-- it is allowed, and submits no block that isn't well typed
+abbrev pub MayHappen : Slow → What → Type 0
+MayHappen s what = Allows s what × SubmitsWellTyped what
+
+pub alike_event : (b : Bool) (d d' : DeskView) (what : What) → MayHappen (state_of d) what → AlikeDesks b d d' → AlikeDesks b (with_event d 0 what) (with_event d' 0 what)
 alike_event b d d' what a k =
     let e = event 0 what in
     let s = state_of d in
     let s' = state_of d' in
     let later = sym (state_later (start_state d) d.history e) in
     let later' = sym (state_later (start_state d') d'.history e) in
-    let next = observed_after s s' what k.possible k.possible_too k.same a in
+    let next = observed_after s s' what k.possible k.possible_too k.same a.0 in
     record {
       table = k.table;
       limit = k.limit;
       pending = ap (pending_after what) k.pending;
-      possible = subst IsPossible later (possible_after s what k.possible a);
+      possible = subst IsPossible later (possible_after s what k.possible a.0);
       possible_too = subst IsPossible later' (possible_after s' what k.possible_too next.0);
       same = ap observed (sym later) ∙ next.1 ∙ ap observed later';
       labels = λ t.
           ap (label_of t) (labels_later (first_labels d.checkpoint) d.history e) ∙ after_alike what (labels_of d) (labels_of d') k.labels t
           ∙ sym (ap (label_of t) (labels_later (first_labels d'.checkpoint) d'.history e));
+      reasons = reasons_next d d' what a.0 a.1 k.same k.reasons;
       fewer = λ f. let few = k.fewer f in omega (arith, length-append d.history (e ∷ []), length-append d'.history (e ∷ []), few);
     }
 
 -- an event that a desk stands with was allowed before it
-pub allowed_by : (d : DeskView) (jobs : List HandedOut) (what : What) → Stands (with_event d 0 what) jobs → Allows (state_of d) what
-allowed_by d jobs what k = (legal_split (start_state d) d.history (event 0 what) k.legal.each).allowed.what
+last_typed : (es : List Event) (e : Event) → SubmittedAreWellTyped (es ++ e ∷ []) → SubmitsWellTyped e.what
+last_typed [] e h = h.0
+last_typed (x ∷ es) e h = last_typed es e h.1
+
+pub allowed_by : (d : DeskView) (jobs : List HandedOut) (what : What) → Stands (with_event d 0 what) jobs → MayHappen (state_of d) what
+allowed_by d jobs what k = ((legal_split (start_state d) d.history (event 0 what) k.legal.each).allowed.what, last_typed d.history (event 0 what) k.typed)
 
 -- the queue may change, if it changes on both
 pub alike_pending : (b : Bool) (d d' : DeskView) (es es' : List Entry) → es ≡ es' → AlikeDesks b d d' → AlikeDesks b (record d { pending = es }) (record d' { pending = es' })
 alike_pending b d d' es es' e k =
-    record { table = k.table; limit = k.limit; pending = e; possible = k.possible; possible_too = k.possible_too; same = k.same; labels = k.labels; fewer = k.fewer }
+    record {
+      table = k.table;
+      limit = k.limit;
+      pending = e;
+      possible = k.possible;
+      possible_too = k.possible_too;
+      same = k.same;
+      labels = k.labels;
+      reasons = reasons_pending d d' es es' k.reasons;
+      fewer = k.fewer;
+    }
 
 -- ---- a full history is told, or makes no difference
 fewer_full : (l m n : ℕ) → m ≤ n → nat_le l m ≡ true → nat_le l n ≡ true

@@ -64,7 +64,7 @@ IsReached (Open d) = Stands d.desk d.jobs
 pub present_stands : (s : Console) → IsReached s → Stands (present_desk s).desk (present_desk s).jobs
 present_stands (Declaring table limit) h = record {
   start = table_sound table h.0;
-  low = omega arith;
+  begins = tt;
   legal = record { each = tt; few = omega arith };
   typed = tt;
   limit_low = h.1;

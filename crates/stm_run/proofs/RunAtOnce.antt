@@ -1,5 +1,5 @@
 -- What `atomically` does is allowed if it isn't refused, so the desk goes on standing.
-use Rattle.std.proofs.Common.{◌≡◌, ℕ, ◌+◌, ◌<◌, ◌≤◌, Bool, true, false, cond, not, List, [], ◌∷◌, map, length, Option, Some, None, refl, sym, subst, arith, length-append}
+use Rattle.std.proofs.Common.{◌≡◌, ℕ, ◌+◌, ◌<◌, ◌≤◌, Bool, true, false, cond, not, List, [], ◌∷◌, length, Option, Some, None, refl, sym, subst, arith, length-append}
 use Rattle.std.specs.Prelude.{nat_le, nat_lt}
 use Rattle.std.proofs.lemmas.Bool.Decides.{nat_tests}
 use Rattle.stm_terms.specs.declared.verdicts.Verdict.{Verdict}
@@ -10,7 +10,7 @@ use Rattle.stm_events.specs.declared.event.What.TheVariants.{Submitted, Installe
 use Rattle.stm_events.specs.Laws.{IsWellTyped, SubmitsWellTyped}
 use Rattle.stm_events.specs.Refusals.{missing, overflows}
 use Rattle.stm_events.specs.SlowAtomically.{install_at_once, atomically, AllowsEach}
-use Rattle.stm_events.specs.SlowDesk.{Slow, verdict_on, waking, is_blocks, stale_after, after, LegalFrom, max_cells, max_waiting}
+use Rattle.stm_events.specs.SlowDesk.{Slow, verdict_on, waking, is_blocks, stale_after, after, max_cells, max_waiting}
 use Rattle.stm_events.specs.States.{IsPossible}
 use Rattle.stm_events.proofs.Atomically.{MayRun, whats_waiting, waiting_allowed, whats_ending, ending_allowed}
 use Rattle.stm_machine.specs.Machine.{event}
@@ -75,7 +75,8 @@ count_of : (s t : Slow) (block : Block) (o : Option Verdict) → length (Submitt
 count_of s t block None = omega arith
 count_of s t block (Some v) = count_by (is_blocks v) (Submitted t.next block) (Installed t.next v) _
 
-abbrev EachTyped : List What → Type 0
+-- none of these submits a block that isn't well typed
+abbrev pub EachTyped : List What → Type 0
 EachTyped [] = Unit {0}
 EachTyped (x ∷ xs) = SubmitsWellTyped x × EachTyped xs
 
@@ -87,9 +88,8 @@ install_typed : (s : Slow) (t : ℕ) (o : Option Verdict) → EachTyped (install
 install_typed s t None = tt
 install_typed s t (Some v) = (tt, finish_typed (is_blocks v) t _ v _)
 
-pub each_legal : (s : Slow) (xs : List What) → AllowsEach s xs → LegalFrom s (map (event 0) xs)
-each_legal s [] a = tt
-each_legal s (x ∷ xs) a = (record { client = omega arith; what = a.0 }, each_legal (after s x) xs a.1)
+pub run_typed : (s : Slow) (block : Block) → IsWellTyped block → EachTyped (atomically s block)
+run_typed s block w = (w, install_typed (after s (Submitted s.next block)) s.next (verdict_on s.store block))
 
 -- ---- the desk after them
 not_full : (limit n k : ℕ) → n + (k + 1) ≤ limit → nat_le limit n ≡ false
@@ -121,4 +121,4 @@ ran_stands d jobs block w None e k =
     let m = may_run_now (missing (plains s.store) block.uses) (nat_le max_waiting (length s.waiters)) (lacks_room d (events_needed o)) (overflows s.store o) e in
     let room : length d.history + events_needed o ≤ d.limit = room_left d.limit (length d.history) (events_needed o) m.room in
     let few : length (atomically s block) ≤ events_needed o = count_of (after s (Submitted s.next block)) s block o in
-    whats_stand d jobs (atomically s block) (omega (arith, room, few)) (run_allowed d jobs block e k) (w, install_typed (after s (Submitted s.next block)) s.next o) k
+    whats_stand d jobs (atomically s block) (omega (arith, room, few)) (run_allowed d jobs block e k) (run_typed s block w) k

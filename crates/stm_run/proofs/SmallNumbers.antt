@@ -29,6 +29,7 @@ use Rattle.stm_events.proofs.Possible.{possible_from}
 use Rattle.stm_events.proofs.Rising.{next_le}
 use Rattle.stm_machine.specs.Checkpoints.{max_next}
 use Rattle.stm_desk.specs.DeskView.{start_state}
+use Rattle.stm_desk.proofs.Starts.{start_next}
 use Rattle.stm_event_lines.specs.Fits.{Is32Bit, FitNumbers}
 use Rattle.stm_event_lines.specs.WholeBlocks.{CheckedAreWellTyped}
 use Rattle.stm_run.specs.Console.{initial_console}
@@ -156,4 +157,5 @@ pub numbers_are_small : BlockAnswersAreRight → DeclarationAnswersAreRight → 
 numbers_are_small blocks declarations faults stable checked max_events low before =
     let s = state_after_lines (initial_console max_events) before in
     let stands = present_stands s (reached blocks declarations faults stable checked max_events low before) in
-    rest_small (start_state (present_desk s).desk) stands.start.possible stands.low [] (present_desk s).desk.history stands.legal
+    let d = (present_desk s).desk in
+    rest_small (start_state d) stands.start.possible (start_next d.table d.checkpoint stands.begins) [] d.history stands.legal

@@ -8,6 +8,7 @@ use Rattle.stm_store.proofs.ApplyPreservesTyping.{kept_store}
 use Rattle.stm_events.specs.declared.event.Event.{Event}
 use Rattle.stm_events.specs.declared.event.What.{What}
 use Rattle.stm_events.specs.declared.event.What.TheVariants.{Submitted, Installed, Finished, Cancelled, Declared as DeclaredLate, Labelled}
+use Rattle.stm_events.specs.declared.kept_cause.KeptCause.{KeptCause}
 use Rattle.stm_events.specs.declared.staleness.StalenessRule.TheVariants.{Changed}
 use Rattle.stm_events.specs.Labels.{Labels}
 use Rattle.stm_events.specs.Laws.{SubmitsWellTyped, SubmittedAreWellTyped}
@@ -17,8 +18,8 @@ use Rattle.stm_events.proofs.Folds.{after-rule}
 use Rattle.stm_events.proofs.NamedVariables.{declaration_fits}
 use Rattle.stm_events.proofs.Possible.{possible_after}
 use Rattle.stm_events.proofs.TypedStores.{typed_after, typed_verdict}
-use Rattle.stm_machine.specs.Checkpoints.{IsCheckpoint, checkpoint_state, checkpoint_of, with_labels, max_next}
-use Rattle.stm_machine.proofs.CheckpointLabels.{same_state}
+use Rattle.stm_machine.specs.Checkpoints.{IsCheckpoint, checkpoint_state, checkpoint_of, with_labels, with_causes, max_next}
+use Rattle.stm_machine.proofs.CheckpointLabels.{same_state, caused_state}
 use Rattle.stm_machine.proofs.CheckpointStates.{checkpoints_are_possible, checkpoints_are_unseen}
 
 pub record IsSound (s : Slow) : Type 0 where
@@ -60,17 +61,21 @@ sound_from s [] k l w = k
 sound_from s (e ∷ es) k l w = sound_from (after s e.what) es (sound_after s e.what k l.0.what w.0) l.1 w.1
 
 -- ---- checkpoints
-is_checkpoint : (s : Slow) → IsSound s → s.next ≤ max_next → IsCheckpoint (checkpoint_of s)
+pub is_checkpoint : (s : Slow) → IsSound s → s.next ≤ max_next → IsCheckpoint (checkpoint_of s)
 is_checkpoint s k low = (checkpoints_are_unseen s k.possible k.typed k.rule low k.store).0
 
-pub unseen : (labels : Labels) (s : Slow) → IsSound s → s.next ≤ max_next → observed (checkpoint_state (with_labels labels (checkpoint_of s))) ≡ observed s
-unseen labels s k low = ap observed (same_state labels (checkpoint_of s)) ∙ (checkpoints_are_unseen s k.possible k.typed k.rule low k.store).1
+-- labels and causes are no part of its state
+marked_state : (labels : Labels) (causes : ℕ → Option KeptCause) (s : Slow) → checkpoint_state (with_causes causes (with_labels labels (checkpoint_of s))) ≡ checkpoint_state (checkpoint_of s)
+marked_state labels causes s = caused_state causes (with_labels labels (checkpoint_of s)) ∙ same_state labels (checkpoint_of s)
 
-sound_unlabelled : (s : Slow) → IsSound s → s.next ≤ max_next → IsSound (checkpoint_state (checkpoint_of s))
+pub unseen : (labels : Labels) (causes : ℕ → Option KeptCause) (s : Slow) → IsSound s → s.next ≤ max_next → observed (checkpoint_state (with_causes causes (with_labels labels (checkpoint_of s)))) ≡ observed s
+unseen labels causes s k low = ap observed (marked_state labels causes s) ∙ (checkpoints_are_unseen s k.possible k.typed k.rule low k.store).1
+
+sound_unmarked : (s : Slow) → IsSound s → s.next ≤ max_next → IsSound (checkpoint_state (checkpoint_of s))
 unfolding checkpoint_of
-sound_unlabelled s k low =
+sound_unmarked s k low =
     let both = checkpoints_are_possible (checkpoint_of s) (is_checkpoint s k low) in
     record { possible = both.0; typed = both.1; store = k.store; rule = refl }
 
-pub sound_checkpoint : (labels : Labels) (s : Slow) → IsSound s → s.next ≤ max_next → IsSound (checkpoint_state (with_labels labels (checkpoint_of s)))
-sound_checkpoint labels s k low = subst IsSound (sym (same_state labels (checkpoint_of s))) (sound_unlabelled s k low)
+pub sound_checkpoint : (labels : Labels) (causes : ℕ → Option KeptCause) (s : Slow) → IsSound s → s.next ≤ max_next → IsSound (checkpoint_state (with_causes causes (with_labels labels (checkpoint_of s))))
+sound_checkpoint labels causes s k low = subst IsSound (sym (marked_state labels causes s)) (sound_unmarked s k low)

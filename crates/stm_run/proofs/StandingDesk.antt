@@ -5,22 +5,29 @@ use Rattle.std.proofs.Common.{◌≡◌, ℕ, zero, suc, ◌<◌, ◌≤◌, fal
 use Rattle.std.specs.Prelude.{nat_le, slice_get}
 use Rattle.std.proofs.lemmas.Bool.Decides.{nat_tests}
 use Rattle.stm_queue.specs.Queue.{Entry, tickets}
+use Rattle.stm_terms.specs.declared.kinds.Ty.{Ty}
 use Rattle.stm_check.specs.TypedBlock.{Block}
-use Rattle.stm_store.specs.Tables.{Declared}
+use Rattle.stm_store.specs.Cells.{plains, Covers}
+use Rattle.stm_store.specs.Tables.{Declared, opened}
 use Rattle.stm_events.specs.declared.event.Event.{Event}
 use Rattle.stm_events.specs.declared.event.What.{What}
 use Rattle.stm_events.specs.Laws.{SubmitsWellTyped, SubmittedAreWellTyped}
 use Rattle.stm_events.specs.SlowDesk.{Waiter, Slow, find_waiter, after, Allows, AllowsEvent, state_from, LegalFrom, max_events}
 use Rattle.stm_events.specs.States.{IsPossible, IsTicketOf, observed, IsLegalFrom}
 use Rattle.stm_events.proofs.Alike.{MayBeAlike, alike_from, alike_found, same_current}
-use Rattle.stm_events.proofs.Kept.{ticket_after}
-use Rattle.stm_machine.specs.Checkpoints.{CheckpointView, checkpoint_state, checkpoint_of, with_labels, start_of, max_next}
+use Rattle.stm_events.proofs.Kept.{ticket_after, variables_stay_covered}
+use Rattle.stm_machine.specs.Checkpoints.{CheckpointView, IsCheckpoint, checkpoint_state, checkpoint_of, with_labels, start_of, MayStart, max_next}
 use Rattle.stm_machine.specs.Machine.{event}
 use Rattle.stm_machine.specs.QueueAndIndex.{due_of}
-use Rattle.stm_desk.specs.DeskView.{DeskView, state_of, labels_of, is_full, pending_after, with_event, checkpointed}
+use Rattle.stm_machine.proofs.CheckpointLabels.{labels_leave_checkpoints, causes_leave_checkpoints}
+use Rattle.stm_desk.specs.DeskView.{DeskView, start_state, state_of, labels_of, is_full, pending_after, with_event}
+use Rattle.stm_desk.specs.Checkpointed.{causes_of, checkpoint_now, checkpointed}
+use Rattle.stm_desk.proofs.CheckpointLabels.{labels_begin}
+use Rattle.stm_desk.proofs.FoundCauses.{may_have_causes}
+use Rattle.stm_desk.proofs.Starts.{IsTypedHistory}
 use Rattle.stm_commands.specs.OpenDesk.{HandedOut}
 use Rattle.stm_commands.proofs.KeptQueue.{QueueKept, kept_event, kept_marks}
-use Rattle.stm_run.proofs.SoundStates.{IsSound, sound_from, sound_checkpoint, unseen}
+use Rattle.stm_run.proofs.SoundStates.{IsSound, sound_from, is_checkpoint, sound_checkpoint, unseen}
 
 -- each job's ticket was given to its block
 abbrev pub AllTaken : Slow → List HandedOut → Type 0
@@ -31,7 +38,7 @@ pub record StandsOn
     (table : List Declared) (checkpoint : Option CheckpointView) (limit : ℕ) (history : List Event) (pending : List Entry) (jobs : List HandedOut)
     : Type 0 where
   pub start : IsSound (start_of table checkpoint)
-  pub low : (start_of table checkpoint).next ≤ max_next
+  pub begins : MayStart table checkpoint
   pub legal : IsLegalFrom (start_of table checkpoint) history
   pub typed : SubmittedAreWellTyped history
   pub limit_low : limit ≤ max_events
@@ -45,12 +52,16 @@ Stands d jobs = StandsOn d.table d.checkpoint d.limit d.history d.pending jobs
 pub stands_sound : (d : DeskView) (jobs : List HandedOut) → Stands d jobs → IsSound (state_of d)
 stands_sound d jobs k = sound_from (start_of d.table d.checkpoint) d.history k.start k.legal.each k.typed
 
+-- its history is one of well typed states
+pub stands_typed : (d : DeskView) (jobs : List HandedOut) → Stands d jobs → IsTypedHistory (start_state d) d.history
+stands_typed d jobs k = record { possible = k.start.possible; state = k.start.typed; rule = k.start.rule; legal = k.legal.each; typed = k.typed }
+
 -- ---- one event more
 taken_later : (s : Slow) (what : What) (jobs : List HandedOut) → IsPossible s → Allows s what → AllTaken s jobs → AllTaken (after s what) jobs
 taken_later s what [] p a k = tt
 taken_later s what (j ∷ js) p a k = (ticket_after s what j.block j.ticket p a k.0, taken_later s what js p a k.1)
 
-legal_later : (s : Slow) (es : List Event) (e : Event) → LegalFrom s es → AllowsEvent (state_from s es) e → LegalFrom s (es ++ e ∷ [])
+pub legal_later : (s : Slow) (es : List Event) (e : Event) → LegalFrom s es → AllowsEvent (state_from s es) e → LegalFrom s (es ++ e ∷ [])
 legal_later s [] e l a = (a, tt)
 legal_later s (x ∷ es) e l a = (l.0, legal_later (after s x.what) es e l.1 a)
 
@@ -58,7 +69,7 @@ pub state_later : (s : Slow) (es : List Event) (e : Event) → state_from s (es 
 state_later s [] e = refl
 state_later s (x ∷ es) e = state_later (after s x.what) es e
 
-typed_later : (es : List Event) (e : Event) → SubmittedAreWellTyped es → SubmitsWellTyped e.what → SubmittedAreWellTyped (es ++ e ∷ [])
+pub typed_later : (es : List Event) (e : Event) → SubmittedAreWellTyped es → SubmitsWellTyped e.what → SubmittedAreWellTyped (es ++ e ∷ [])
 typed_later [] e h w = (w, tt)
 typed_later (x ∷ es) e h w = (h.0, typed_later es e h.1 w)
 
@@ -73,7 +84,7 @@ stands_event d jobs what room a w k =
     let later : after (state_of d) what ≡ state_from first (d.history ++ event 0 what ∷ []) = sym (state_later first d.history (event 0 what)) in
     record {
       start = k.start;
-      low = k.low;
+      begins = k.begins;
       legal = record {
         each = legal_later first d.history (event 0 what) k.legal.each (record { client = omega arith; what = a });
         few = let low = k.limit_low in let r : length d.history < d.limit = has_room d.limit (length d.history) room in omega (arith, length-append d.history (event 0 what ∷ []), low, r);
@@ -88,7 +99,7 @@ stands_event d jobs what room a w k =
 pub stands_marked : (d : DeskView) (pending : List Entry) (jobs : List HandedOut) → tickets pending ≡ tickets d.pending → Stands d jobs → Stands (record d { pending = pending }) jobs
 stands_marked d pending jobs e k = record {
   start = k.start;
-  low = k.low;
+  begins = k.begins;
   legal = k.legal;
   typed = k.typed;
   limit_low = k.limit_low;
@@ -109,7 +120,7 @@ taken_at s (x ∷ xs) (suc n) j k e = taken_at s xs n j k.1 e
 -- the same desk, with other jobs
 pub stands_with : (d : DeskView) (old new : List HandedOut) → AllTaken (state_of d) new → Stands d old → Stands d new
 stands_with d old new t k =
-    record { start = k.start; low = k.low; legal = k.legal; typed = k.typed; limit_low = k.limit_low; taken = t; queue = k.queue }
+    record { start = k.start; begins = k.begins; legal = k.legal; typed = k.typed; limit_low = k.limit_low; taken = t; queue = k.queue }
 
 -- ---- a checkpoint
 same_due : (o p : Option Waiter) → MayBeAlike o p → due_of o ≡ due_of p
@@ -136,17 +147,30 @@ same_taken s s' (j ∷ js) n same k = (
   same_taken s s' js n same k.1,
 )
 
+-- what the desk is at may be kept, with its labels and causes
+pub checkpoint_is : (d : DeskView) (jobs : List HandedOut) → (state_of d).next ≤ max_next → Stands d jobs → IsCheckpoint (checkpoint_now d)
+checkpoint_is d jobs low k =
+    let s = state_of d in
+    let labels = (labels_begin d.table d.checkpoint d.history (labels_of d) k.begins k.legal.each (λ t. refl)).each in
+    let labelled = (labels_leave_checkpoints (labels_of d) (checkpoint_of s) labels (is_checkpoint s (stands_sound d jobs k) low)).0 in
+    let causes = may_have_causes d k.begins (stands_typed d jobs k) (labels_of d) (causes_of d) (λ t. refl) in
+    (causes_leave_checkpoints (causes_of d) (with_labels (labels_of d) (checkpoint_of s)) causes labelled).0
+
+start_covers : (table : List Declared) (o : Option CheckpointView) → MayStart table o → (uses : List (ℕ × Ty)) → Covers (plains (opened table)) uses → Covers (plains (start_of table o).store) uses
+start_covers table None m uses h = h
+start_covers table (Some c) m uses h = m.1 uses h
+
 pub stands_checkpointed : (d : DeskView) (jobs : List HandedOut) → (state_of d).next ≤ max_next → Stands d jobs → Stands (checkpointed d) jobs
 unfolding checkpoint_of
 stands_checkpointed d jobs low k =
     let s = state_of d in
-    let s' = checkpoint_state (with_labels (labels_of d) (checkpoint_of s)) in
+    let s' = checkpoint_state (checkpoint_now d) in
     let sound = stands_sound d jobs k in
-    let e : observed s ≡ observed s' = sym (unseen (labels_of d) s sound low) in
+    let e : observed s ≡ observed s' = sym (unseen (labels_of d) (causes_of d) s sound low) in
     let same : (t : ℕ) → MayBeAlike (find_waiter t s.waiters) (find_waiter t s'.waiters) = λ t. alike_found t s.waiters s'.waiters (alike_from s.waiters s'.waiters (ap (λ o. o.waiters) e)) in
     record {
-      start = sound_checkpoint (labels_of d) s sound low;
-      low = low;
+      start = sound_checkpoint (labels_of d) (causes_of d) s sound low;
+      begins = (checkpoint_is d jobs low k, λ uses h. variables_stay_covered (start_state d) d.history uses (start_covers d.table d.checkpoint k.begins uses h));
       legal = record { each = tt; few = omega arith };
       typed = tt;
       limit_low = k.limit_low;

@@ -14,9 +14,12 @@ use Rattle.stm_events.specs.SlowDesk.{find_waiter}
 use Rattle.stm_event_lines.specs.WholeBlocks.{CheckedAreWellTyped}
 use Rattle.stm_machine.specs.Checkpoints.{max_next}
 use Rattle.stm_machine.specs.JobsHandedOut.{sent, block_at}
-use Rattle.stm_desk.specs.DeskView.{DeskView, state_of, labels_of, checkpointed}
+use Rattle.stm_desk.specs.DeskView.{DeskView, state_of, labels_of}
+use Rattle.stm_desk.specs.Checkpointed.{causes_of, checkpointed}
+use Rattle.stm_desk.specs.Reasons.{reason_of}
 use Rattle.stm_desk.specs.Refusals.{finish_refusal, cancel_refusal}
 use Rattle.stm_desk.specs.Settling.{requeued_all}
+use Rattle.stm_desk.proofs.ReasonsStay.{reasons_stay}
 use Rattle.stm_lines.specs.LineClass.{LineClass, TooLong, Silent, NotAscii, Words, line_class}
 use Rattle.stm_lines.specs.NumberArgument.{number_argument}
 use Rattle.stm_blocks.specs.declared.refusal.Refusal.{Refusal}
@@ -35,7 +38,7 @@ use Rattle.stm_commands.specs.Evaluation.{eval_desk_step, eval_step}
 use Rattle.stm_commands.specs.Jobs.{max_jobs, taken, with_jobs, jobs_line, take_jobs_step, take_step, job_at, deliver_job_step, deliver_step, handback_ticket_step, handback_step}
 use Rattle.stm_commands.specs.Labelling.{labelling, labelling_step, label_step, block_text_line, block_answer, board_answer}
 use Rattle.stm_commands.specs.OpenDesk.{HandedOut, OpenDesk, on_desk}
-use Rattle.stm_commands.specs.Questions.{ready_answer}
+use Rattle.stm_commands.specs.Questions.{ready_answer, why_line, why_answer}
 use Rattle.stm_commands.specs.Refusals.{refused}
 use Rattle.stm_run.specs.declared.command.Command.{Command}
 use Rattle.stm_run.specs.declared.command.Command.TheVariants.{Tvar, Declare, Try, Looks, Submit, Atomically, Take, Deliver, Handback, Eval, Finish, Cancel, Show, Reads, Store, Settle, Drain, History, Ready, Why, Events, Checkpoint, Label, Block as BlockCommand, Board}
@@ -48,13 +51,14 @@ use Rattle.stm_run.specs.LineCheckpoints.{auto_checkpoint, answers_by, command_c
 use Rattle.stm_run.specs.Unseen.{LookAlike, is_of_history, word_is_of_history, class_is_of_history, line_is_of_history, HaveRoom, CheckpointsAreUnseenByCommands}
 use Rattle.stm_run.proofs.AlikeSteps.{AlikeSteps, NotFull, submit_alike, declare_alike, atomically_alike, cancel_alike, label_alike, finish_alike, handback_alike, deliver_alike, eval_alike, settle_order, drain_order, run_alike}
 use Rattle.stm_run.proofs.AlikeLabels.{labels_stay}
+use Rattle.stm_run.proofs.AlikeReasons.{stands_reasons}
 use Rattle.stm_run.proofs.DeclaredVariables.{LateOrTold, late_judged}
 use Rattle.stm_run.proofs.GivenLabels.{GivesLabel, gives_label}
 use Rattle.stm_run.proofs.DeliveredJobs.{delivered_stands}
 use Rattle.stm_run.proofs.LookingAlike.{AlikeDesks, same_store, same_names, same_found, alike_pending, show_alike, board_alike, text_alike, reads_alike, ready_alike, jobs_alike}
 use Rattle.stm_run.proofs.ReachedConsole.{IsReached, auto_reached, line_reached, start_reached, reached}
 use Rattle.stm_run.proofs.SoundStates.{unseen}
-use Rattle.stm_run.proofs.StandingDesk.{Stands, stands_sound, stands_checkpointed}
+use Rattle.stm_run.proofs.StandingDesk.{Stands, stands_sound, stands_typed, checkpoint_is, stands_checkpointed}
 use Rattle.stm_run.proofs.TextsJudged.{BlockOrTold, compiled}
 
 -- ---- open desks
@@ -128,7 +132,7 @@ module _ (judged : (names : List Named) (text : List ℕ) → BlockOrTold names 
   -- with the same jobs
   desk_alike : (b : Bool) (d d' : DeskView) (jobs : List HandedOut) → Stands d jobs → AlikeDesks b d d' → (c : Command) → is_of_history c ≡ false → (argument : List ℕ)
       → Follows b (desk_step (record { desk = d; jobs = jobs }) c argument) (desk_step (record { desk = d'; jobs = jobs }) c argument)
-  unfolding declare_step try_answer looks_answer submit_step atomically_step take_step deliver_step handback_step eval_step finish_step cancel_step show_answer reads_answer store_answer settle_step drain_step ready_answer label_step block_answer board_answer
+  unfolding declare_step try_answer looks_answer submit_step atomically_step take_step deliver_step handback_step eval_step finish_step cancel_step show_answer reads_answer store_answer settle_step drain_step ready_answer why_answer label_step block_answer board_answer
   desk_alike b d d' jobs st k Tvar h argument = said b _ _ _ _ (record { desks = k; jobs = refl }) refl
   desk_alike b d d' jobs st k Declare h argument = λ n.
       subst (λ (r : Result Declared Refusal). NotFull b (declare_text_step d (late_variable_of (state_of d).names argument)).1 (declare_text_step d' r).1
@@ -186,6 +190,9 @@ module _ (judged : (names : List Named) (text : List ℕ) → BlockOrTold names 
       (run_alike next_drain drain_order drained_line b (requeued_all d) (requeued_all d') (alike_pending b d d' (recalled d.pending) (recalled d'.pending) (ap recalled k.pending) k) m)) (said b _ _ _ _ (record { desks = k; jobs = refl }) refl)
   desk_alike b d d' jobs st k Ready h argument =
       said b _ _ _ _ (record { desks = k; jobs = refl }) (ap (λ (t : List ℕ). with_nothing t argument_refused argument) (ready_alike b d d' k))
+  desk_alike b d d' jobs st k Why h argument =
+      said b _ _ _ _ (record { desks = k; jobs = refl })
+      (number_text (λ t. why_line t (reason_of d t)) (λ t. why_line t (reason_of d' t)) (number_argument argument) (λ t. ap (why_line t) (k.reasons.each t)))
   desk_alike b d d' jobs st k Label h argument = labelling_alike b d d' jobs (labelling argument) (gives_label argument) st k
   desk_alike b d d' jobs st k BlockCommand h argument =
       said b _ _ _ _ (record { desks = k; jobs = refl })
@@ -193,7 +200,6 @@ module _ (judged : (names : List Named) (text : List ℕ) → BlockOrTold names 
   desk_alike b d d' jobs st k Board h argument =
       said b _ _ _ _ (record { desks = k; jobs = refl }) (ap (λ (t : List ℕ). with_nothing t argument_refused argument) (board_alike b d d' k))
   desk_alike b d d' jobs st k History h argument = absurd (cc h)
-  desk_alike b d d' jobs st k Why h argument = absurd (cc h)
   desk_alike b d d' jobs st k Events h argument = absurd (cc h)
   desk_alike b d d' jobs st k Checkpoint h argument = absurd (cc h)
 
@@ -282,15 +288,31 @@ checkpoint_alike b d d' jobs st low k = record {
   pending = k.pending;
   possible = k.possible;
   possible_too = (stands_sound (checkpointed d') jobs (stands_checkpointed d' jobs low st)).possible;
-  same = k.same ∙ sym (unseen (labels_of d') (state_of d') (stands_sound d' jobs st) low);
+  same = k.same ∙ sym (unseen (labels_of d') (causes_of d') (state_of d') (stands_sound d' jobs st) low);
   labels = λ t. k.labels t ∙ sym (labels_stay d' jobs st t);
+  reasons = record {
+    first = k.reasons.first;
+    second = stands_reasons (checkpointed d') jobs (stands_checkpointed d' jobs low st);
+    each = λ t. k.reasons.each t ∙ sym (reasons_stay d' st.begins (stands_typed d' jobs st) (checkpoint_is d' jobs low st) t);
+  };
   fewer = λ e. omega arith;
 }
 
 itself_alike : (b : Bool) (d : DeskView) (jobs : List HandedOut) → Stands d jobs → AlikeDesks b d d
 itself_alike b d jobs st =
     let p = (stands_sound d jobs st).possible in
-    record { table = refl; limit = refl; pending = refl; possible = p; possible_too = p; same = refl; labels = λ t. refl; fewer = λ e. omega arith }
+    let r = stands_reasons d jobs st in
+    record {
+      table = refl;
+      limit = refl;
+      pending = refl;
+      possible = p;
+      possible_too = p;
+      same = refl;
+      labels = λ t. refl;
+      reasons = record { first = r; second = r; each = λ t. refl };
+      fewer = λ e. omega arith;
+    }
 
 -- ---- consoles that look alike
 from_look : (s s' : Console) → IsReached s → IsReached s' → LookAlike s s' → AlikeConsoles false s s'
@@ -305,6 +327,7 @@ from_look (Open d) (Open d') r r' k = record {
     possible_too = (stands_sound d'.desk d'.jobs r').possible;
     same = k.observed_is;
     labels = k.labels;
+    reasons = record { first = stands_reasons d.desk d.jobs r; second = stands_reasons d'.desk d'.jobs r'; each = k.reasons };
     fewer = λ e. absurd (cc e);
   };
   jobs = k.jobs;
@@ -322,6 +345,7 @@ to_look b (Open d) (Open d') k = record {
   jobs = k.jobs;
   observed_is = k.desks.same;
   labels = k.desks.labels;
+  reasons = k.desks.reasons.each;
 }
 
 module _ (blocks : BlockAnswersAreRight) (declarations : DeclarationAnswersAreRight) (faults : CheckNeverSaysNoMemory) (stable : VerdictIsStable) (checked : CheckedAreWellTyped) where

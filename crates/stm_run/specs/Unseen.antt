@@ -1,15 +1,16 @@
--- Nobody can tell from an answer whether a checkpoint was made. The commands `history`, `events` and `why`, which speak of the events,
--- and `checkpoint` are left aside, and so is the room that a history has for events.
+-- Nobody can tell from an answer whether a checkpoint was made. The commands `history` and `events`, which speak of the events, and
+-- `checkpoint` are left aside, and so is the room that a history has for events.
 use Rattle.std.specs.Prelude.{◌≡◌, ◌⊎◌, ⊤, ℕ, ◌≤◌, Bool, true, false, List, [], ◌∷◌, ◌++◌, Option, Some, None, codes}
 use Rattle.stm_events.specs.Labels.{label_of}
 use Rattle.stm_events.specs.SlowDesk as slow
 use Rattle.stm_events.specs.States.{observed}
 use Rattle.stm_desk.specs.DeskView.{state_of, labels_of}
+use Rattle.stm_desk.specs.Reasons.{reason_of}
 use Rattle.stm_lines.specs.LineClass.{LineClass, TooLong, Silent, NotAscii, Words, line_class}
 use Rattle.stm_commands.specs.Checkpointing.{are_tickets_full}
 use Rattle.stm_commands.specs.Refusals.{refused}
 use Rattle.stm_run.specs.declared.command.Command.{Command}
-use Rattle.stm_run.specs.declared.command.Command.TheVariants.{History, Why, Events, Checkpoint}
+use Rattle.stm_run.specs.declared.command.Command.TheVariants.{History, Events, Checkpoint}
 use Rattle.stm_run.specs.declared.console.Console.{Console}
 use Rattle.stm_run.specs.Console.{command_named, answer_to, answers_to, state_after, initial_console}
 use Rattle.stm_run.specs.ConsoleState.{present_desk, is_open, table_of, with_checkpoint}
@@ -18,8 +19,8 @@ use Rattle.stm_run.specs.LineCheckpoints.{Turn, turn_lines, answers_by}
 
 -- ---- consoles that look alike
 -- Both desks are open on the same table, take as many events, have the same tickets queued and out and the same jobs, and the same is
--- observed of their states, whose blocks have the same labels. Of the histories and of the checkpoints that they begin from nothing is
--- said.
+-- observed of their states, whose blocks have the same labels and wait for the same, stale ones because of the same finish. Of the
+-- histories and of the checkpoints that they begin from nothing is said.
 pub record LookAlike (s s' : Console) : Type 0 where
   pub opened : is_open s ≡ true
   pub opened_too : is_open s' ≡ true
@@ -29,12 +30,12 @@ pub record LookAlike (s s' : Console) : Type 0 where
   pub jobs : (present_desk s).jobs ≡ (present_desk s').jobs
   pub observed_is : observed (state_of (present_desk s).desk) ≡ observed (state_of (present_desk s').desk)
   pub labels : (t : ℕ) → label_of t (labels_of (present_desk s).desk) ≡ label_of t (labels_of (present_desk s').desk)
+  pub reasons : (t : ℕ) → reason_of (present_desk s).desk t ≡ reason_of (present_desk s').desk t
 
 -- ---- lines
 -- the command speaks of the events, or makes a checkpoint
 abbrev pub is_of_history : Command → Bool
 is_of_history History = true
-is_of_history Why = true
 is_of_history Events = true
 is_of_history Checkpoint = true
 is_of_history command = false

@@ -9,7 +9,7 @@ ghost use Rattle.stm_commands.specs.Questions.{events_answer};
 ghost use Rattle.stm_run.specs.Abstraction.{IsReply, IsStep, history_of, later_events_of};
 ghost use Rattle.stm_run.specs.Console.{initial_console, command_named, desk_step, on_console, word_step, step};
 ghost use Rattle.stm_machine.specs.Checkpoints.{MayStart};
-ghost use Rattle.stm_desk.specs.DeskView.{checkpoint_now};
+ghost use Rattle.stm_desk.specs.Checkpointed.{checkpoint_now};
 ghost use Rattle.stm_commands.specs.Checkpointing.{are_tickets_full, bare_checkpoint_step, checkpoint_step, makes_checkpoint};
 ghost use Rattle.stm_run.specs.ConsoleState.{present_desk, is_open, table_of, events_of, with_checkpoint};
 ghost use Rattle.stm_run.specs.LineCheckpoints.{asks_checkpoint, reply_checkpoints, is_streamed, command_checkpoints, word_checkpoints, line_checkpoints};

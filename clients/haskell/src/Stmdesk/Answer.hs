@@ -62,7 +62,7 @@ data Reason
     WaitsForEvaluation
   | -- | Another evaluation, since the finish of this ticket changed these variables: what the block had read, and what was left.
     StaleBy (Ticket Value) [(Ref, Value, Value)]
-  | -- | Another evaluation; the finish that made it stale came before a checkpoint.
+  | -- | Another evaluation; a checkpoint of version 0.17 or earlier doesn't say which finish made it stale.
     StaleBefore
   | -- | A change of what it read.
     WaitsForChange [(Ref, Value)]

@@ -2,7 +2,7 @@
 
 ghost use Rattle.std.specs.Prelude.{◌≡◌, ◌++◌, Some, string_bytes, length, is_some, not, OnOk, IfOk, IfSome};
 ghost use Rattle.stm_machine.specs.Checkpoints.{MayStart};
-ghost use Rattle.stm_desk.specs.DeskView.{checkpoint_now};
+ghost use Rattle.stm_desk.specs.Checkpointed.{checkpoint_now};
 ghost use Rattle.stm_commands.specs.Checkpointing.{are_tickets_full, begun_anew, checkpoint_line, bare_checkpoint_step};
 ghost use Rattle.stm_commands.specs.OpenDesk.{Steps};
 
