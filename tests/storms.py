@@ -28,7 +28,6 @@ FAULTS = [  # a script, the number of its first faulty line, and the reason, wit
     ("tvar x : TVar Int = y\nclient\n", 1, "Unknown 15"),
     ("client\n" + X, 2, "Late"),
     # sections
-    ("client 1\n", 1, "Argument"),
     ("client client\n", 1, "Argument"),
     ("client\n" * 65, 65, "ClientsFull"),
     ("submit retry\nclient\n", 1, "no client"),
@@ -101,6 +100,8 @@ STORM_ONLY = [  # what only a storm's script may not have
     ("client\nsubmit retry\nthrows 1\n", 3, "Command"),
     (X + "client\nchoose x 1\n", 3, "Command"),
     ("client\nsubmit retry\nfinish 1\nrepeat\n", 4, "Command"),
+    ("client 1\n", 1, "Argument"),
+    ("client\nclient 2\n", 2, "Argument"),
 ]
 EXPLORE_ONLY = [  # wrong invariants and checks of an exploration
     (X + "always\nclient\n", 2, "EndOfText"),
@@ -182,9 +183,40 @@ EXPLORE_ONLY = [  # wrong invariants and checks of an exploration
     ("client\nsubmit retry\nfinish 1\nrepeat\neventually return True\n", 5, "Late"),
     ("client\nsubmit retry\nfinish 1\nrepeat\ntvar x : Int = 0\n", 5, "Late"),
     ("client\nsubmit retry\nfinish 1\nrepeat\nfrob\n", 5, "Command"),
-    ("client\nsubmit retry\nfinish 1\nrepeat\n-- the next one\n\nclient 2\n", 7, "Argument"),
+    ("client\nsubmit retry\nfinish 1\nrepeat\n-- the next one\n\nclient 65\n", 7, "Argument"),
     (X + "client\nexpect x 0\nrepeat\nexpect x 0\n", 5, "Late"),
     (X + "client\nchoose x 1\nrepeat\nchoose x 1\n", 5, "Late"),
+    # equal clients, of which there are 1 to 64, with the others
+    ("client 0\n", 1, "Argument"),
+    ("client 65\n", 1, "Argument"),
+    ("client -1\n", 1, "Argument"),
+    ("client two\n", 1, "Argument"),
+    ("client 2 2\n", 1, "Argument"),
+    ("client 4294967297\n", 1, "Argument"),
+    ("client 00000000002\n", 1, "Argument"),
+    ("client 64\nclient\n", 2, "ClientsFull"),
+    ("client\nclient 64\n", 2, "ClientsFull"),
+    ("client 32\n-- the others\nclient 33\n", 3, "ClientsFull"),
+    ("client\n" * 63 + "client 2\n", 64, "ClientsFull"),
+    ("client 62\nclient 2\nclient\n", 3, "ClientsFull"),
+    ("client 64\nclient 65\n", 2, "Argument"),
+    ("client 64\nclient 0\n", 2, "Argument"),
+    ("submit retry\nclient 2\n", 1, "no client"),
+    ("client 2\n" + X, 2, "Late"),
+    ("client 2\nalways return True\n", 2, "Late"),
+    ("client 2\nrepeat\n", 2, "Argument"),
+    ("client 2\nsubmit retry\nfinish 2\n", 3, "Argument"),
+    ("client 2\nsubmit retry\nthrows 2\n", 3, "Argument"),
+    ("client 2\nsubmit retry\nfinish 1\nrepeat\nfinish 1\n", 5, "Late"),
+    ("client 2\nassert return True\nrepeat\nclient\nrepeat\n", 5, "Argument"),
+    ("client 2\nassert return True\nrepeat\nclient\nsubmit retry\nfinish 2\n", 6, "Argument"),
+]
+RIGHT_TO_EXPLORE = [  # scripts of some clients that do nothing
+    "client 1",
+    "client 64\r\n",
+    "client\n" * 62 + "client 2\n",
+    "client 2\n" * 32,
+    "\tclient \t 0000000003 \t\r\nclient\n",
 ]
 NOTHING = {
     "storm": b"client 0 submitted 0 finished 0 cancelled 0 refused 0 missed 0\nevents 0\nreplay ok\n",
@@ -204,7 +236,7 @@ def cases():
             case = named(word, f"line {line} of {script[:60]!r}", script)
             case.status, case.errors = 1, f"stmdesk: script line {line}\nstmdesk: script line {line}: {reason}\n".encode()
             yield case
-        for script in RIGHT:
+        for script in RIGHT + RIGHT_TO_EXPLORE * (word == "explore"):
             case = named(word, f"{script[:60]!r}", script)
             case.printed = NOTHING[word]
             yield case

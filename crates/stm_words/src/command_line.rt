@@ -105,7 +105,7 @@ Commands on standard input, one per line. A line that begins with `--` is a comm
       reads 1
   why T                       Prints what the block under a ticket waits for: `why 1 new`, `why 1 waits #0=1`, `why 1 ready`, or
                               `why 1 stale 3 #0=1->2` if the finish of ticket 3 changed a variable that it had read (or
-                              `why 1 stale checkpoint` if that was before a checkpoint)
+                              `why 1 stale checkpoint` if a checkpoint of version 0.17 or earlier doesn't say which)
       why 1
   store                       Prints each variable with its value and how often it changed, then `cells 1`
       store
@@ -171,6 +171,7 @@ A script on standard input, as for `stmdesk storm`, with invariants and goals be
   never BLOCK              In every state the block has to retry
   eventually BLOCK         From every state one has to be reachable in which the block commits with the result True
   client                   Begins the section of the next client
+  client N                 Begins that of the next N clients, 1 to 64, each of which does all its lines
   submit BLOCK             Names the next block of the client; this is no step
   finish K                 A step: finishes the block of the section's K-th `submit`, and waits while the block retries. A block that
                            throws is a fault
@@ -179,6 +180,7 @@ A script on standard input, as for `stmdesk storm`, with invariants and goals be
   expect NAME VALUE        A step: the variable has to hold the value
   assert BLOCK             A step: the block has to commit with the result True; it waits while the block retries, and changes nothing
   choose NAME VALUE ..     A step: the variable takes one of these values, of which there are 1 to 16; all are followed
+  repeat                   Ends a section: the client begins it again
 
 Each client does its steps in their order, and every interleaving of the clients is searched; but where a client's steps can't
 matter to the others until later, it may be left for later, unless `--all` is given. Prints how many states were met and how many
