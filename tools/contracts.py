@@ -74,3 +74,13 @@ def functions(top: Path) -> tuple[list[Function], dict[str, list[Path]]]:
 def edits(top: Path) -> list[Path]:
     """The edits of the first tier."""
     return sorted(top.glob("crates/*/must-fail/*.edit"))
+
+
+def second_tier(top: Path) -> list[Path]:
+    """The edits of the second tier."""
+    return sorted(top.glob("tests/edits/*/*.edit"))
+
+
+def crate_of(edit: Path) -> str:
+    """The crate that an edit of either tier changes."""
+    return edit.parent.parent.name if edit.parent.name == "must-fail" else edit.parent.name
