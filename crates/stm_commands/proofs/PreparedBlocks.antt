@@ -50,6 +50,11 @@ prepared_at known [] n d b h e p = absurd (omega arith)
 prepared_at known (o ∷ os) zero d b h e p = subst (IsPrepared known) e p.0
 prepared_at known (o ∷ os) (suc n) d b h e p = prepared_at known os n d b (omega arith) e p.1
 
+pub prepared_none : (known : List Named) (os : List (Option Block)) (n : ℕ) → ArePrepared known os → ArePrepared known (slice_set os n None)
+prepared_none known [] n p = tt
+prepared_none known (o ∷ os) zero p = (tt, p.1)
+prepared_none known (o ∷ os) (suc n) p = (p.0, prepared_none known os n p.1)
+
 pub prepared_set : (known : List Named) (os : List (Option Block)) (n : ℕ) (b : Block) → IsBlockOf known b.text b → ArePrepared known os → ArePrepared known (slice_set os n (Some b))
 prepared_set known [] n b h p = tt
 prepared_set known (o ∷ os) zero b h p = (h, p.1)

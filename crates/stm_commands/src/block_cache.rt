@@ -23,10 +23,13 @@ use stm_store::Names;
 use stm_terms::NoMemory;
 
 /// How many blocks are kept.
-const PLACES: usize = 256;
+const PLACES: usize = 1_024;
 
-/// The longest text whose block is kept, in bytes. So the kept texts have no more than a mebibyte.
-const LONGEST: usize = 4_096;
+/// How many places the block of a text may have.
+const WAYS: usize = 4;
+
+/// How many bytes the texts of all kept blocks may have.
+const MOST_BYTES: usize = 1_048_576;
 
 /// The Fowler-Noll-Vo hash of a text's bytes.
 fn hash_of(text: &str) -> u64 {
@@ -37,14 +40,22 @@ fn hash_of(text: &str) -> u64 {
     hash
 }
 
-/// The place of a text, by its hash. Of the texts of one place the last is kept.
+/// The place at which the hash of a text is noted.
 fn place_of(hash: u64) -> usize
-    ensures { result < 256 }
+    ensures { result < 1024 }
 {
     (hash >> 40) as usize % PLACES
 }
 
-/// Whether the last text of a place had this hash; from now on it has. So a text that comes only once takes no place from
+/// The first of the places that the block of such a text may have.
+fn first_way(place: usize) -> usize
+    requires { place < 1024 }
+    ensures { result < 1024 }
+{
+    place - place % WAYS
+}
+
+/// Whether the last text that was noted at a place had this hash; from now on it has. So a text that comes only once takes no place from
 /// one that comes again.
 fn comes_again(hashes: &mut [u64], place: usize, hash: u64) -> bool {
     if place >= hashes.len() {
@@ -95,17 +106,100 @@ fn block_at<'a>(
     }
 }
 
-/// Keeps the block at a place if its text comes again, unless memory runs out.
-fn keep(blocks: &mut [Option<SharedBlock>], place: usize, block: &SharedBlock, again: bool)
+/// The block of a text, if one of its places has it.
+fn kept_block<'a>(
+    blocks: &'a [Option<SharedBlock>],
+    first: usize,
+    text: &str,
+) -> Option<&'a SharedBlock>
+    requires { first < 1024 }
+    ensures { (known : List Named) → ArePrepared known blocks.now
+        → IfSome (option_copied result) (λ b. IsBlockOf known text.now b) }
+{
+    for place in first..first + WAYS {
+        if let Some(block) = block_at(blocks, place, text) {
+            return Some(block);
+        }
+    }
+    None
+}
+
+/// How many bytes the text of the block at a place has; nothing if there is none.
+fn bytes_at(blocks: &[Option<SharedBlock>], place: usize) -> Option<usize> {
+    if place >= blocks.len() {
+        return None;
+    }
+    match &blocks[place] {
+        Some(block) => Some(block.block().text().len()),
+        None => None,
+    }
+}
+
+/// The place for a block: a free one of its places, or else one by its hash, whose block goes.
+fn place_for(blocks: &[Option<SharedBlock>], first: usize, hash: u64) -> usize
+    requires { first < 1024 }
+{
+    for place in first..first + WAYS {
+        if bytes_at(blocks, place).is_none() {
+            return place;
+        }
+    }
+    first + (hash >> 32) as usize % WAYS
+}
+
+/// Drops all blocks.
+fn forget(blocks: &mut [Option<SharedBlock>])
+    ensures { (known : List Named) → ArePrepared known blocks.old → ArePrepared known blocks.new }
+{
+    for place in 0..blocks.len() {
+        blocks[place] = None;
+    }
+}
+
+/// Makes room for a text in the place of the block there: if the texts have too many bytes then, all blocks are dropped.
+fn make_room(blocks: &mut [Option<SharedBlock>], bytes: &mut usize, place: usize, len: usize)
+    ensures { (known : List Named) → ArePrepared known blocks.old → ArePrepared known blocks.new }
+{
+    let gone = bytes_at(blocks, place).unwrap_or(0);
+    *bytes = bytes.saturating_sub(gone).saturating_add(len);
+    if *bytes > MOST_BYTES {
+        forget(blocks);
+        *bytes = len;
+    }
+}
+
+/// Puts a block at a place, unless memory runs out.
+fn put(blocks: &mut [Option<SharedBlock>], place: usize, block: &SharedBlock)
     ensures { (known : List Named) → ArePrepared known blocks.old
         → IsBlockOf known block.now.text block.now → ArePrepared known blocks.new }
 {
-    if !again || place >= blocks.len() {
+    if place >= blocks.len() {
         return;
     }
     if let Ok(block) = block.share() {
         blocks[place] = Some(block);
     }
+}
+
+/// Keeps a block whose text has this hash, at one of the places from the first on, if its text comes again.
+fn keep(
+    blocks: &mut [Option<SharedBlock>],
+    bytes: &mut usize,
+    first: usize,
+    hash: u64,
+    block: &SharedBlock,
+    again: bool,
+)
+    requires { first < 1024 }
+    ensures { (known : List Named) → ArePrepared known blocks.old
+        → IsBlockOf known block.now.text block.now → ArePrepared known blocks.new }
+{
+    if !again {
+        return;
+    }
+    let place = place_for(blocks, first, hash);
+    make_room(blocks, bytes, place, block.block().text().len());
+    put(blocks, place, block);
 }
 
 /// One more hold on a block.
@@ -126,6 +220,7 @@ fn prepared_block(
     text: &str,
     blocks: &mut [Option<SharedBlock>],
     hashes: &mut [u64],
+    bytes: &mut usize,
 ) -> Result<SharedBlock, Refusal>
     requires { ArePrepared known.now blocks.old }
     ensures kept { ArePrepared known.now blocks.new }
@@ -135,22 +230,24 @@ fn prepared_block(
 {
     let hash = hash_of(text);
     let place = place_of(hash);
-    if let Some(block) = block_at(blocks, place, text) {
+    let first = first_way(place);
+    if let Some(block) = kept_block(blocks, first, text) {
         return share_block(block);
     }
     let block = compile_shared(alloc, known, text)?;
     let again = comes_again(hashes, place, hash);
-    keep(blocks, place, &block, again);
+    keep(blocks, bytes, first, hash, &block, again);
     Ok(block)
 }
 
-/// The last blocks that were asked for twice, of texts that aren't long, and the hash of the last text of each place. A text that is
-/// refused is not kept, so names that are declared later leave each kept block the block of its text. Contracts see the names over
-/// which they were checked last.
+/// The last blocks that were asked for twice, how many bytes their texts have, and the hash of the last text that was noted at each place.
+/// A text that is refused is not kept, so names that are declared later leave each kept block the block of its text. Contracts see the
+/// names over which they were checked last.
 pub struct BlockCache {
     known: Snapshot<Names>,
     blocks: Vec<Option<SharedBlock>>,
     hashes: Vec<u64>,
+    bytes: usize,
 }
 
 // Written out, and not derived, so that the proof of each owner calls it once.
@@ -160,6 +257,7 @@ impl Drop for BlockCache {
             known: _,
             blocks: _,
             hashes: _,
+            bytes: _,
         } = self;
     }
 }
@@ -185,11 +283,12 @@ impl BlockCache {
             known: Snapshot::of(known),
             blocks: no_blocks(alloc)?,
             hashes: vec![in alloc; 0u64; PLACES]?,
+            bytes: 0,
         })
     }
 
-    /// The block of a text, kept or new, over names that come after those that were known before. If its text isn't long and comes
-    /// again, it is kept from now on.
+    /// The block of a text, kept or new, over names that come after those that were known before. If its text comes again, it is kept from
+    /// now on.
     pub fn block(
         &mut self,
         alloc: Global,
@@ -203,9 +302,13 @@ impl BlockCache {
         ensures covered { IfOk result (λ b. (cells : List (Ty × Value)) → Covers cells (named_uses known.now) → Covers cells b.uses) }
     {
         self.known = Snapshot::of(known);
-        if text.len() > LONGEST {
-            return compile_shared(alloc, known, text);
-        }
-        prepared_block(alloc, known, text, &mut self.blocks, &mut self.hashes)
+        prepared_block(
+            alloc,
+            known,
+            text,
+            &mut self.blocks,
+            &mut self.hashes,
+            &mut self.bytes,
+        )
     }
 }

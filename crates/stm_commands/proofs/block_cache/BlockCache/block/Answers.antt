@@ -6,6 +6,3 @@ use Rattle.stm_commands.proofs.block_cache.BlockCache.block.Goals as goal
 pub prepared_block-requires : goal.prepared_block-requires
 prepared_block-requires c =
     subst (ArePrepared c.args.known.now) (sym c.deref_mut.ensures.value) (prepared_now _ _ _ _ _ c.self.view_is c.requires refl c.self.invariant)
-
-pub invariant_of-self : goal.invariant_of-self
-invariant_of-self c = prepared_now _ _ _ _ _ c.self.view_is c.requires c.of.ensures c.self.invariant
