@@ -57,7 +57,7 @@ class ClientAt:
 
 @dataclass(frozen=True)
 class LineWarning:
-    """A line of a script that can't matter, though nothing is wrong: its number, counted from 1, and why.
+    """A line of a script that may be a mistake, though nothing is wrong: its number, counted from 1, and why.
 
     >>> explore("tvar x : Int = 1\\nclient\\nsubmit writeTVar x 2").warnings
     [LineWarning(line=3, text='no `finish` and no `cancel` names this block')]
@@ -103,7 +103,7 @@ class Exploration:
     After a fault `order` are the clients in the order of their steps that leads there, `choices` the line and the value of each `choose`
     of this order, in their turn, and `clients` where each client is that isn't at its end. Else `order` is None, and the others are
     empty. No shorter order leads to a fault, unless more than `max_states` states can be reached. If the outcome is "right", `warnings`
-    are the lines that can't matter (docs/EXPLORE.md, "Output").
+    are the lines that may be mistakes (docs/EXPLORE.md, "Output").
 
     >>> found = explore('''
     ...     tvar x : Int = 0

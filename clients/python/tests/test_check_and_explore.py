@@ -212,6 +212,11 @@ class Explorations(OnProgram):
         step = "client\nsubmit do { at <- readTVar r; writeTVar at 1 }\nfinish 1\n"
         self.assert_is(self.explore(held + step).warnings, [])
         self.assert_is(self.explore(held + step.replace("finish", "cancel")).warnings, [LineWarning(3, wanted[0][1])])
+        throwing, never = "client\nsubmit throw 1\nthrows 1\nfinish 1\n", "the block of this `finish` commits in no reachable state"
+        self.assert_is(self.explore(throwing).warnings, [])
+        self.assert_is(self.explore(throwing, all=True).warnings, [LineWarning(4, never)])
+        self.assert_is(self.explore(throwing, progress=True).warnings, [LineWarning(4, never)])
+        self.assert_is(self.explore("eventually return True\n" + throwing).warnings, [LineWarning(1, "no step names a variable of this goal"), LineWarning(5, never)])
 
     def test_choices(self):
         script = "tvar b : Bool = False\ntvar r : TVar Bool = b\ntvar n : Int = 0\nclient\nchoose n 4 (-5)\nchoose b True\nchoose r b\n"
