@@ -8,9 +8,9 @@ use std::io;
 use std::io::{ErrorKind, Write};
 use stm_desk::Desk;
 use stm_history::{
-    HistoryFault, Legal, LoadFault, WriteFault, check_history, labels_after_history, load_history,
-    replay, write_history,
+    HistoryFault, Legal, LoadFault, check_history, labels_after_history, load_history, replay,
 };
+use stm_history_text::{WriteFault, write_history};
 use stm_store::Seed;
 
 /// Bytes that were written.

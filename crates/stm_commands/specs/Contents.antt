@@ -6,8 +6,8 @@ use Rattle.stm_terms.specs.ReadSet.{reads_of}
 use Rattle.stm_check.specs.TypedBlock.{Block}
 use Rattle.stm_store.specs.declared.cell.Cell.{Cell}
 use Rattle.stm_store.specs.Naming.{Named, name_numbered}
-use Rattle.stm_history.specs.HistoryText.{history_text as text_of_history}
-use Rattle.stm_history.specs.Starts.{written_start}
+use Rattle.stm_history_text.specs.HistoryText.{history_text as text_of_history}
+use Rattle.stm_history_text.specs.Starts.{written_start}
 use Rattle.stm_events.specs.SlowDesk.{Since, Waiter, Slow, Standing, New, Stale, Current, under, find_waiter, standing}
 use Rattle.stm_desk.specs.DeskView.{state_of}
 use Rattle.stm_lines.specs.NumberArgument.{number_argument}

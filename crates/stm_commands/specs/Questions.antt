@@ -4,7 +4,7 @@ use Rattle.stm_terms.specs.Texts.{spaced, list_text, value_text, write_text}
 use Rattle.stm_events.specs.declared.event.Event.{Event}
 use Rattle.stm_events.specs.Ready.{is_ready}
 use Rattle.stm_events.specs.SlowDesk.{Slow}
-use Rattle.stm_history.specs.HistoryText.{event_lines}
+use Rattle.stm_history_text.specs.HistoryText.{event_lines}
 use Rattle.stm_desk.specs.declared.reason.Change.{Change}
 use Rattle.stm_desk.specs.Reasons.{WaitReason, NotEvaluated, IsStale, WasStale, Waits, CanFinish, reason_of}
 use Rattle.stm_desk.specs.DeskView.{state_of}

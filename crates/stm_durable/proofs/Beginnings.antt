@@ -1,8 +1,8 @@
 -- A history that begins in a new file, since the lines before its events are too long for a batch.
 use Rattle.std.proofs.Common.{◌≡◌, ◌⊎◌, inr, ⊎_elim, ℕ, List, [], ◌++◌, Bool, true, false, sym, ◌∙◌, ap, subst}
 use Rattle.stm_events.specs.declared.event.Event.{Event}
-use Rattle.stm_history.specs.HistoryText.{history_text}
-use Rattle.stm_history.specs.Starts.{Start}
+use Rattle.stm_history_text.specs.HistoryText.{history_text}
+use Rattle.stm_history_text.specs.Starts.{Start}
 use Rattle.stm_journal.specs.declared.sync_mode.SyncMode.{SyncMode}
 use Rattle.stm_journal.specs.declared.sync_mode.SyncMode.TheVariants.{Full, Append, Never}
 use Rattle.stm_journal.specs.Disk.{Disk, LeavesOnly}

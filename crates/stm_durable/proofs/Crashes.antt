@@ -3,8 +3,8 @@ use Rattle.std.proofs.Common.{◌≡◌, ◌≢◌, ◌⊎◌, inl, inr, ⊎_eli
 use Rattle.std.proofs.lemmas.List.{append-nil}
 use Rattle.stm_events.specs.declared.event.Event.{Event}
 use Rattle.stm_events.specs.SlowDesk.{Slow}
-use Rattle.stm_history.specs.HistoryText.{history_text, event_lines}
-use Rattle.stm_history.specs.Starts.{Start}
+use Rattle.stm_history_text.specs.HistoryText.{history_text, event_lines}
+use Rattle.stm_history_text.specs.Starts.{Start}
 use Rattle.stm_journal.specs.declared.sync_mode.SyncMode.{SyncMode}
 use Rattle.stm_journal.specs.declared.sync_mode.SyncMode.TheVariants.{Full, Append, Never}
 use Rattle.stm_journal.specs.Disk.{Disk, LeavesOnly}

@@ -4,7 +4,7 @@ use Rattle.std.proofs.lemmas.List.{take-append-le}
 use Rattle.stm_events.specs.declared.event.Event.{Event}
 use Rattle.stm_events.specs.SlowDesk.{Slow, after}
 use Rattle.stm_event_lines.specs.Fits.{IsOneLine}
-use Rattle.stm_history.specs.HistoryText.{event_lines}
+use Rattle.stm_history_text.specs.HistoryText.{event_lines}
 use Rattle.stm_event_lines.specs.Lines.{event_line}
 use Rattle.stm_history.proofs.Braces.{event_brace}
 use Rattle.stm_event_lines.proofs.ReadsBack.{event_one_line}

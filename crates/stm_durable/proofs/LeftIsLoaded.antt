@@ -4,10 +4,10 @@ use Rattle.std.proofs.lemmas.List.{append-nil, append_assoc, take-append-drop}
 use Rattle.stm_events.specs.declared.event.Event.{Event}
 use Rattle.stm_events.specs.SlowDesk.{Slow, LegalFrom, after, state_from}
 use Rattle.stm_events.specs.States.{IsLegalFrom}
-use Rattle.stm_history.specs.HistoryText.{history_text, start_text}
+use Rattle.stm_history_text.specs.HistoryText.{history_text, start_text}
 use Rattle.stm_history.specs.Judgement.{AreEvents}
 use Rattle.stm_history.specs.Loading.{IsWholeHistory}
-use Rattle.stm_history.specs.Starts.{Start, first_state, read_back, state_after_start}
+use Rattle.stm_history_text.specs.Starts.{Start, first_state, read_back, state_after_start}
 use Rattle.stm_history.proofs.KeptIsTaken.{what_is_kept_is_taken}
 use Rattle.stm_journal.specs.Text.{IsWhole, recovered}
 use Rattle.stm_journal.proofs.Wholes.{recovered_whole}

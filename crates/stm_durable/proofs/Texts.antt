@@ -13,10 +13,10 @@ use Rattle.stm_events.specs.SlowDesk.{Slow, after}
 use Rattle.stm_machine.specs.declared.checkpoint.CheckpointBlock.{CheckpointBlock}
 use Rattle.stm_machine.specs.Checkpoints.{CheckpointView}
 use Rattle.stm_event_lines.specs.Fits.{Is32Bit, IsOneLine, BeginsWithBrace}
-use Rattle.stm_history.specs.HistoryText.{variable_lines, event_lines, head_text, cell_lines, cell_lines_from, cells_text, block_line, block_lines, checkpoint_text, history_text, start_text, text_before}
+use Rattle.stm_history_text.specs.HistoryText.{variable_lines, event_lines, head_text, cell_lines, cell_lines_from, cells_text, block_line, block_lines, checkpoint_text, history_text, start_text, text_before}
 use Rattle.stm_history.specs.Judgement.{AreVariables, AreVariablesFrom, AreEvents, FitCells, FitBlocks, CheckpointFits, FitsBefore, FormatFits, IsBefore}
 use Rattle.stm_history.specs.Loading.{HasText}
-use Rattle.stm_history.specs.Starts.{Start, delivery_of_block, first_state}
+use Rattle.stm_history_text.specs.Starts.{Start, delivery_of_block, first_state}
 use Rattle.stm_event_lines.specs.Lines.{IsFormat, event_line, header_line, variable_line}
 use Rattle.stm_event_lines.specs.CheckpointLines.{FitsCell, FitsName, IsCheckpointFormat, cell_line, checkpoint_header_line}
 use Rattle.stm_history.proofs.Braces.{event_brace, header_brace, variable_brace, checkpoints_begin_with_braces}

@@ -8,10 +8,10 @@ use Rattle.stm_events.specs.States.{IsLegalFrom}
 use Rattle.stm_machine.specs.Checkpoints.{CheckpointView}
 use Rattle.stm_event_lines.specs.Fits.{FitsNames, FitsFormat}
 use Rattle.stm_event_lines.specs.Lines.{declaring_format}
-use Rattle.stm_history.specs.HistoryText.{event_lines, history_text, start_text}
+use Rattle.stm_history_text.specs.HistoryText.{event_lines, history_text, start_text}
 use Rattle.stm_history.specs.Judgement.{AreEvents, AreShortLines, FormatFits, StartFits}
 use Rattle.stm_history.specs.Loading.{IsWholeHistory, ReportsLoadFault, loaded_start}
-use Rattle.stm_history.specs.Starts.{Start, first_state, format_for, read_back, state_after_start}
+use Rattle.stm_history_text.specs.Starts.{Start, first_state, format_for, read_back, state_after_start}
 use Rattle.stm_history.specs.declared.files.loading.Loaded.{Loaded}
 use Rattle.stm_journal.specs.declared.sync_mode.SyncMode.{SyncMode}
 use Rattle.stm_journal.specs.declared.sync_mode.SyncMode.TheVariants.{Full, Append, Never}

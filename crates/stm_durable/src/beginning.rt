@@ -2,7 +2,7 @@
 
 ghost use Rattle.std.specs.Prelude.{◌≡◌, [], true, false, Some, IsTrue, IfOk, OnOk, OnErr};
 ghost use Rattle.stm_events.specs.SlowDesk.{Slow};
-ghost use Rattle.stm_history.specs.HistoryText.{history_text, WritesText};
+ghost use Rattle.stm_history_text.specs.HistoryText.{history_text, WritesText};
 ghost use Rattle.stm_history.specs.Judgement.{AreShortLines};
 ghost use Rattle.stm_journal.specs.Disk.{Shows, HasLength, IsOnDisk};
 ghost use Rattle.stm_journal.specs.NewFile.{written_bytes};
@@ -14,7 +14,7 @@ use crate::recording::HistoryFile;
 use std::alloc::Global;
 use std::io::Write;
 use stm_events::Event;
-use stm_history::{WriteFault, write_events, write_start};
+use stm_history_text::{WriteFault, write_events, write_start};
 use stm_journal::{Device, JournalError, NewFile, Replace, ReplaceError};
 use stm_machine::Checkpoint;
 use stm_store::Table;

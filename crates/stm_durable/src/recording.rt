@@ -10,7 +10,7 @@ ghost use Rattle.stm_durable.specs.Durable.{lent_start, history_front, IsBegunOr
 
 use std::alloc::Global;
 use stm_events::Event;
-use stm_history::{write_events, write_start};
+use stm_history_text::{write_events, write_start};
 use stm_journal::{Device, Journal, JournalError, MAX_BATCH, SyncMode};
 use stm_machine::Checkpoint;
 use stm_store::Table;

@@ -5,7 +5,7 @@ use Rattle.std.proofs.KnownBytes.{Appends-nil}
 use Rattle.stm_terms.specs.Texts.{IsPrefixOf}
 use Rattle.stm_history.specs.Loading.{HasText, loaded_start}
 use Rattle.stm_history.specs.Judgement.{AreEvents, FitsBefore, IsBefore}
-use Rattle.stm_history.specs.Starts.{first_state, format_of_start}
+use Rattle.stm_history_text.specs.Starts.{first_state, format_of_start}
 use Rattle.stm_machine.specs.Checkpoints.{CheckpointView, start_of, started_by}
 use Rattle.stm_history.specs.declared.files.loading.Loaded.{Loaded}
 use Rattle.stm_journal.specs.declared.sync_mode.SyncMode.{SyncMode}

@@ -26,7 +26,7 @@ use Rattle.stm_event_lines.specs.Lines.{declaring_format}
 use Rattle.stm_event_lines.specs.WholeBlocks.{CheckedAreWellTyped}
 use Rattle.stm_event_lines.proofs.CheckedBlocks.{checked_blocks_stay}
 use Rattle.stm_history.specs.Judgement.{FitCells, FitBlocks, FitsBefore, FormatFits}
-use Rattle.stm_history.specs.Starts.{AreOfText, BlocksAreOfText, are_plain_blocks, declares, format_of_start, is_declaration, is_labelling, labels_blocks}
+use Rattle.stm_history_text.specs.Starts.{AreOfText, BlocksAreOfText, are_plain_blocks, declares, format_of_start, is_declaration, is_labelling, labels_blocks}
 use Rattle.stm_history.proofs.KeptIsTaken.{written_fits}
 use Rattle.stm_durable.specs.Durable.{AreFit, IsFormatFor}
 use Rattle.stm_desk.specs.DeskView.{start_state}

@@ -10,9 +10,9 @@ use Rattle.stm_events.specs.SlowDesk.{Slow, state_from}
 use Rattle.stm_events.specs.States.{IsLegalFrom}
 use Rattle.stm_machine.specs.Checkpoints.{CheckpointView, MayStart}
 use Rattle.stm_event_lines.specs.Lines.{declaring_format}
-use Rattle.stm_history.specs.HistoryText.{history_text, start_text}
+use Rattle.stm_history_text.specs.HistoryText.{history_text, start_text}
 use Rattle.stm_history.specs.Judgement.{FitsBefore}
-use Rattle.stm_history.specs.Starts.{Start, declares, format_for, format_of_start, is_declaration, is_labelling, labels_blocks, written_start}
+use Rattle.stm_history_text.specs.Starts.{Start, declares, format_for, format_of_start, is_declaration, is_labelling, labels_blocks, written_start}
 use Rattle.stm_journal.specs.declared.sync_mode.SyncMode.{SyncMode}
 use Rattle.stm_journal.specs.declared.sync_mode.SyncMode.TheVariants.{Full, Append, Never}
 use Rattle.stm_journal.specs.Disk.{Disk, LeavesOnly}

@@ -5,8 +5,8 @@ use Rattle.stm_events.specs.declared.event.Event.{Event}
 use Rattle.stm_events.specs.SlowDesk.{state_from}
 use Rattle.stm_machine.specs.Checkpoints.{start_of}
 use Rattle.stm_history.specs.declared.files.loading.Loaded.{Loaded}
-use Rattle.stm_history.specs.HistoryText.{start_text}
-use Rattle.stm_history.specs.Starts.{Start}
+use Rattle.stm_history_text.specs.HistoryText.{start_text}
+use Rattle.stm_history_text.specs.Starts.{Start}
 use Rattle.stm_journal.specs.declared.error.JournalError.{JournalError}
 use Rattle.stm_journal.specs.declared.error.JournalError.TheVariants.{NoMemory, Failed, NoSpace, TornTooLong}
 use Rattle.stm_journal.specs.declared.sync_mode.SyncMode.{SyncMode}

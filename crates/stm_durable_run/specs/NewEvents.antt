@@ -17,7 +17,7 @@ use Rattle.stm_run.specs.Growing.{Grows}
 use Rattle.stm_durable_run.specs.DurableRun.{start_in}
 use Rattle.stm_durable_run.specs.Ranges.{AreEventsInRange, AreCellsInRange, AreBlocksInRange}
 use Rattle.stm_history.specs.Judgement.{FitsBefore}
-use Rattle.stm_history.specs.Starts.{declares, labels_blocks}
+use Rattle.stm_history_text.specs.Starts.{declares, labels_blocks}
 
 -- over the names, a block that is submitted is what its text checks to
 abbrev pub IsOfItsText : List Named → What → Type 0

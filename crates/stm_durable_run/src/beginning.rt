@@ -16,7 +16,7 @@ use std::alloc::Global;
 use stm_commands::OpenDesk;
 use stm_desk::Checkpoint;
 use stm_durable::HistoryFile;
-use stm_history::format_for;
+use stm_history_text::format_for;
 use stm_journal::{Replace, ReplaceError};
 use stm_run::console::Console;
 

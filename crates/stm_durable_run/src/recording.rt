@@ -3,8 +3,8 @@
 ghost use Rattle.std.specs.Prelude.{◌≡◌, ◌⊎◌, ◌++◌, ◌<◌, ◌≤◌, [], true, false, List, IsTrue, MatchBool, length, take, drop, OnOk, IfOk, IsErrOf};
 ghost use Rattle.stm_event_lines.specs.Lines.{declaring_format};
 ghost use Rattle.stm_events.specs.SlowDesk.{Slow};
-ghost use Rattle.stm_history.specs.HistoryText.{history_text};
-ghost use Rattle.stm_history.specs.Starts.{format_for};
+ghost use Rattle.stm_history_text.specs.HistoryText.{history_text};
+ghost use Rattle.stm_history_text.specs.Starts.{format_for};
 ghost use Rattle.stm_journal.specs.Disk.{LeavesOnly};
 ghost use Rattle.stm_durable.specs.Durable.{FitLines, KeepsAny, KeepsSome, KeepsHistory, KeepsEach, Records, LeavesHistory, LeavesOldOrAll};
 ghost use Rattle.stm_run.specs.declared.console.Console.TheVariants.{Open as IsOpen};
@@ -20,7 +20,7 @@ use stm_commands::OpenDesk;
 use stm_durable::HistoryFile;
 use stm_event_lines::formats::DECLARING_FORMAT;
 use stm_events::Event;
-use stm_history::format_for;
+use stm_history_text::format_for;
 use stm_journal::{Device, JournalError, Replace, ReplaceError};
 use stm_run::console::Console;
 

@@ -6,7 +6,7 @@
 ghost use Rattle.std.specs.Prelude.{◌≡◌, ◌≢◌, ◌<◌, ◌++◌, ◌∷◌, [], true, false, ℕ, List, Option, Some, IsTrue, length, string_bytes, OnOk, OnErr, IfOk, IfErr};
 ghost use Rattle.std.specs.Io.KnownBytes.{Appends};
 ghost use Rattle.stm_terms.specs.Texts.{IsPrefixOf};
-ghost use Rattle.stm_history.specs.HistoryText.{WritesText};
+ghost use Rattle.stm_history_text.specs.HistoryText.{WritesText};
 ghost use Rattle.stm_journal.specs.Disk.{LeavesOnly};
 ghost use Rattle.stm_journal.specs.declared.error.JournalError.TheVariants.{NoMemory as OutOfMemory};
 ghost use Rattle.stm_lines.specs.LineClass.{line_class};
@@ -36,7 +36,7 @@ use stm_commands::commands::checkpoint::write_checkpoint_line;
 use stm_commands::refusals::refuse;
 use stm_desk::Checkpoint;
 use stm_durable::HistoryFile;
-use stm_history::WriteFault;
+use stm_history_text::WriteFault;
 use stm_journal::{Device, JournalError, Replace, ReplaceError};
 use stm_lines::RunFault;
 use stm_lines::output::{flush, write_text};

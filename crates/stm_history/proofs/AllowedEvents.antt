@@ -25,7 +25,7 @@ use Rattle.stm_machine.specs.Machine.{Parts, IsAt, HasTicketLeft, MovesBy, event
 use Rattle.stm_machine.specs.Plans.{IsPlan}
 use Rattle.stm_history.specs.declared.files.replayer.Replayer.{Replayer}
 use Rattle.stm_history.specs.Following.{Follows}
-use Rattle.stm_history.specs.Starts.{Start, first_state, state_after_start}
+use Rattle.stm_history_text.specs.Starts.{Start, first_state, state_after_start}
 
 -- ---- a history with one event more
 module _ (start : Start) (history : List Event) (client : ℕ) (what : What) (a : IsLegalFrom (first_state start) (history ++ event client what ∷ [])) where

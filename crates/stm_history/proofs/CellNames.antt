@@ -15,8 +15,9 @@ use Rattle.stm_store.proofs.NewNames.{known-added}
 use Rattle.stm_store.proofs.Typed.{kinds-left}
 use Rattle.stm_event_lines.specs.CheckpointLines.{FitsCell, FitsName, cell_line}
 use Rattle.stm_event_lines.proofs.Checkpoints.{cell_one_line, cell_same}
+use Rattle.stm_history_text.proofs.TextInParts.{lines-append}
 use Rattle.stm_history.specs.Checking.{AreCells, MayBeNamed, with_name_of}
-use Rattle.stm_history.specs.HistoryText.{cell_lines, cell_lines_from}
+use Rattle.stm_history_text.specs.HistoryText.{cell_lines, cell_lines_from}
 use Rattle.stm_history.specs.Judgement.{FitCells}
 use Rattle.stm_history.proofs.CutsAtLineFeeds.{cut_unique, no_feed}
 
@@ -123,14 +124,7 @@ pub below : (cells : List Cell) (names : List Named) → Covers (plains cells) (
 below cells names c = subst (λ (n : ℕ). NumbersAreBelow n names) (length-plains cells) (below_by (plains cells) names c)
 
 -- ---- the lines of variables with names
-pub lines-append : (i : ℕ) (names : List Named) (xs ys : List Cell) → cell_lines_from i names (xs ++ ys) ≡ cell_lines_from i names xs ++ cell_lines_from (i + length xs) names ys
-lines-append i names [] ys = let same : i ≡ i + 0 = omega arith in ap (λ (k : ℕ). cell_lines_from k names ys) same
-lines-append i names (c ∷ xs) ys =
-    let same : i + 1 + length xs ≡ i + suc (length xs) = omega arith in
-    ap (λ (l : List ℕ). cell_line (name_numbered i names) c ++ 10 ∷ l) (lines-append (i + 1) names xs ys ∙ ap (λ (k : ℕ). cell_lines_from (i + 1) names xs ++ cell_lines_from k names ys) same)
-    ∙ sym (append_assoc (cell_line (name_numbered i names) c) (10 ∷ cell_lines_from (i + 1) names xs) (cell_lines_from (i + suc (length xs)) names ys))
-
--- they have the names of their own numbers only
+-- lines have the names of their own numbers only
 pub lines_same : (i : ℕ) (T U : List Named) (xs : List Cell) → ((j : ℕ) → j < i + length xs → name_numbered j T ≡ name_numbered j U) → cell_lines_from i T xs ≡ cell_lines_from i U xs
 lines_same i T U [] h = refl
 lines_same i T U (c ∷ xs) h =

@@ -9,9 +9,9 @@ use Rattle.stm_machine.specs.Checkpoints.{CheckpointView, AreCheckpointBlocks, I
 use Rattle.stm_event_lines.specs.CheckpointLines.{cell_line, checkpoint_format}
 use Rattle.stm_event_lines.proofs.Checkpoints.{waiting_one_line}
 use Rattle.stm_history.specs.Checking.{AreCells, MayBeNamed, MayTakeBlock, MayTakeCell}
-use Rattle.stm_history.specs.HistoryText.{block_line, block_lines, cell_lines, cell_lines_from}
+use Rattle.stm_history_text.specs.HistoryText.{block_line, block_lines, cell_lines, cell_lines_from}
 use Rattle.stm_history.specs.Judgement.{FitBlocks, FitCells, HaveShortLines, IsReadable, IsShort}
-use Rattle.stm_history.specs.Starts.{are_plain_blocks, delivery_of_block, is_plain_block}
+use Rattle.stm_history_text.specs.Starts.{are_plain_blocks, delivery_of_block, is_plain_block}
 use Rattle.stm_history.proofs.CellNames.{Ascend, below, common_cells, fits_name, named_fits, next_named, numbered_after}
 use Rattle.stm_history.proofs.CutsAtLineFeeds.{cut_unique, no_feed}
 use Rattle.stm_history.proofs.OneReading.{AreMarked, cells_of, marked_from, same_block}

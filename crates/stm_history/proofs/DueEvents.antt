@@ -40,7 +40,7 @@ use Rattle.stm_history.specs.declared.files.replayer.Replayer.{Replayer}
 use Rattle.stm_history.specs.Expecting.{IsDueOn, IsDueAfter}
 use Rattle.stm_history.specs.Explanation.{deliver_first, deliver_refused, is_history_full}
 use Rattle.stm_history.specs.Following.{Follows}
-use Rattle.stm_history.specs.Starts.{Start, first_state, state_after_start}
+use Rattle.stm_history_text.specs.Starts.{Start, first_state, state_after_start}
 use Rattle.stm_history.proofs.ExpectedEvents.{due_by}
 use Rattle.stm_history.proofs.AllowedEvents.{legal_next}
 

@@ -17,7 +17,7 @@ use Rattle.stm_history.specs.declared.files.check.Stage.TheVariants.{Running}
 use Rattle.stm_history.specs.declared.files.replayer.Replayer.{Replayer}
 use Rattle.stm_history.specs.Following.{Follows}
 use Rattle.stm_history.specs.Stages.{IsStage}
-use Rattle.stm_history.specs.Starts.{Start, delivery_of_block, is_plain_block, names_after}
+use Rattle.stm_history_text.specs.Starts.{Start, delivery_of_block, is_plain_block, names_after}
 use Rattle.stm_history.specs.declared.files.expecting.Expectation.{Expectation}
 use Rattle.stm_history.specs.declared.files.expecting.Expectation.TheVariants.{Due}
 use Rattle.stm_history.specs.declared.files.explanation.Explanation.{Explanation}

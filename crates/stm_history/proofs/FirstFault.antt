@@ -8,7 +8,7 @@ use Rattle.stm_event_lines.specs.Fits.{FitsNames, FitsFormat}
 use Rattle.stm_event_lines.specs.Lines.{event_line}
 use Rattle.stm_history.specs.Judgement.{IsShort, BeginsWithHistory, NoEventNext, IsIllegalFrom, ReportsFault, next_line}
 use Rattle.stm_history.specs.FileLaws.{HistoriesAreTaken, FaultsAreFixed}
-use Rattle.stm_history.specs.Starts.{Start, first_state, names_after}
+use Rattle.stm_history_text.specs.Starts.{Start, first_state, names_after}
 use Rattle.stm_history.proofs.OneReading.{IsNext, Compared, same, more, fewer, both, nothing_next, never_next, legal_next, header_by}
 
 -- the line after these events is bad: something is left, and no line of an event

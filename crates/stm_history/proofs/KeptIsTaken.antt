@@ -14,9 +14,9 @@ use Rattle.stm_event_lines.specs.Lines.{declaring_format, rule_of}
 use Rattle.stm_event_lines.proofs.Checkpoints.{cell_one_line, checkpoint_header_one_line, waiting_one_line}
 use Rattle.stm_history.specs.Checking.{NoFeed}
 use Rattle.stm_history.specs.FileLaws.{WhatIsKeptIsTaken, WrittenFormatsFit}
-use Rattle.stm_history.specs.HistoryText.{block_line, block_lines, cell_lines, cell_lines_from, checkpoint_text, event_lines, text_before}
+use Rattle.stm_history_text.specs.HistoryText.{block_line, block_lines, cell_lines, cell_lines_from, checkpoint_text, event_lines, text_before}
 use Rattle.stm_history.specs.Judgement.{AreEvents, AreShortLines, CheckpointFits, FitBlocks, FitCells, FitsBefore, FormatFits, HaveShortLines, IsBefore, are_short_after, max_line}
-use Rattle.stm_history.specs.Starts.{Start, are_plain_blocks, declares, labels_blocks, delivery_of_block, first_state, format_of_start, read_back, table_back}
+use Rattle.stm_history_text.specs.Starts.{Start, are_plain_blocks, declares, labels_blocks, delivery_of_block, first_state, format_of_start, read_back, table_back}
 use Rattle.stm_history.proofs.CellNames.{fits_name, named_fits}
 use Rattle.stm_history.proofs.CutsAtLineFeeds.{no_feed}
 use Rattle.stm_history.proofs.OneReading.{head_fits}

@@ -23,6 +23,5 @@ pub mod RefusedVariables
 pub mod ReplayFaults
 pub mod Shortness
 pub mod StartOfACheck
-pub mod TextInParts
 pub mod WhereLinesStop
 pub mod WrittenIsTaken

@@ -13,10 +13,10 @@ use Rattle.stm_machine.specs.Checkpoints.{CheckpointView}
 use Rattle.stm_event_lines.specs.CheckpointLines.{FitsWaiting, IsCheckpointFormat, cell_line, checkpoint_header_line}
 use Rattle.stm_event_lines.specs.Fits.{FitsNames, FitsFormat}
 use Rattle.stm_event_lines.specs.Lines.{IsFormat, event_line, header_line, variable_line}
-use Rattle.stm_history.specs.HistoryText.{block_line, block_lines, cell_lines, cells_text, checkpoint_text, head_text, history_text, start_text, variable_lines, event_lines}
+use Rattle.stm_history_text.specs.HistoryText.{block_line, block_lines, cell_lines, cells_text, checkpoint_text, head_text, history_text, start_text, variable_lines, event_lines}
 use Rattle.stm_history.specs.Judgement.{IsShort, MayDeclare, AreVariables, AreVariablesFrom, AreEvents, FitBlocks, HaveShortLines, IsReadable}
 use Rattle.stm_history.specs.Checking.{CheckerState, at_header, at_variables, at_cells, at_blocks, at_events, with_table, with_blocks, with_cells, with_name_of, AreCells, IsCheckpointHead, LeadsTo, LinesUpTo}
-use Rattle.stm_history.specs.Starts.{are_plain_blocks, delivery_of_block, first_state, is_plain_block}
+use Rattle.stm_history_text.specs.Starts.{are_plain_blocks, delivery_of_block, first_state, is_plain_block}
 use Rattle.stm_history.proofs.CellNames.{cells_push, lines_push}
 
 pub variable_lines-push : (ds : List Declared) (d : Declared) → variable_lines (ds ++ d ∷ []) ≡ variable_lines ds ++ (variable_line d ++ 10 ∷ [])

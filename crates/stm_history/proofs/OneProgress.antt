@@ -9,10 +9,10 @@ use Rattle.stm_machine.specs.Checkpoints.{CheckpointView}
 use Rattle.stm_event_lines.specs.CheckpointLines.{cell_line, checkpoint_header_line}
 use Rattle.stm_event_lines.specs.Lines.{IsFormat, header_line, variable_line}
 use Rattle.stm_event_lines.proofs.ReadsBack.{header_same}
-use Rattle.stm_history.specs.HistoryText.{block_line, block_lines, cell_lines, cell_lines_from, checkpoint_text, event_lines, variable_lines}
+use Rattle.stm_history_text.specs.HistoryText.{block_line, block_lines, cell_lines, cell_lines_from, checkpoint_text, event_lines, variable_lines}
 use Rattle.stm_history.specs.Judgement.{AreVariables, FitBlocks, IsReadable}
 use Rattle.stm_history.specs.Checking.{CheckerState, at_header, at_variables, at_cells, at_blocks, at_events, AreCells, LinesUpTo}
-use Rattle.stm_history.specs.Starts.{Start}
+use Rattle.stm_history_text.specs.Starts.{Start}
 use Rattle.stm_history.proofs.CellNames.{cells as one_cells, common_cells}
 use Rattle.stm_history.proofs.CommonLines.{next_block, next_cell}
 use Rattle.stm_history.proofs.CutsAtLineFeeds.{IsCut, cut_unique}

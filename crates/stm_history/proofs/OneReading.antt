@@ -22,10 +22,10 @@ use Rattle.stm_event_lines.proofs.Checkpoints.{checkpoint_header_new, checkpoint
 use Rattle.stm_event_lines.proofs.ReadsBack.{event_one_line, header_one_line, variable_one_line, header_same, variable_same, event_same}
 use Rattle.stm_history.specs.declared.files.fault.HistoryFault.TheVariants.{BadHeader}
 use Rattle.stm_history.specs.Checking.{AreCells}
-use Rattle.stm_history.specs.HistoryText.{block_line, block_lines, cell_lines, cells_text, checkpoint_text, event_lines, head_text, history_text, start_text, text_before, variable_lines}
+use Rattle.stm_history_text.specs.HistoryText.{block_line, block_lines, cell_lines, cells_text, checkpoint_text, event_lines, head_text, history_text, start_text, text_before, variable_lines}
 use Rattle.stm_history.specs.Judgement.{IsShort, AreVariables, AreVariablesFrom, AreEvents, BeginsWithHistory, FitBlocks, IsBefore, IsReadable, IsStart, NoEventNext, IsIllegalFrom, ReportsFault, numbers_from}
 use Rattle.stm_history.specs.FileLaws.{NumbersAreFixed, TextsAreOfOneHistory}
-use Rattle.stm_history.specs.Starts.{Start, delivery_of_block, first_state, names_after}
+use Rattle.stm_history_text.specs.Starts.{Start, delivery_of_block, first_state, names_after}
 use Rattle.stm_history.proofs.CellNames.{cells}
 use Rattle.stm_history.proofs.CutsAtLineFeeds.{IsCut, cut_unique, no_feed}
 use Rattle.stm_history.proofs.WrittenIsTaken.{few_variables}

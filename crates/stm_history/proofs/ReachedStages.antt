@@ -24,10 +24,10 @@ use Rattle.stm_history.specs.declared.files.fault.HistoryFault.TheVariants.{BadH
 use Rattle.stm_history.specs.declared.files.replayer.Replayer.{Replayer}
 use Rattle.stm_history.specs.Checking.{CheckerState, at_header, at_variables, at_cells, at_blocks, at_events, with_table, with_blocks, with_cells, IsCheckpointHead, LeadsTo, LeadsToCells, LinesUpTo, MayBeNamed, MayRefuse, strange, with_name_of}
 use Rattle.stm_history.specs.Following.{Follows}
-use Rattle.stm_history.specs.HistoryText.{block_line}
+use Rattle.stm_history_text.specs.HistoryText.{block_line}
 use Rattle.stm_history.specs.Judgement.{IsBefore, next_line}
 use Rattle.stm_history.specs.Stages.{CountsWithinLimits, IsSmallStart, IsStage, LeadsToStage}
-use Rattle.stm_history.specs.Starts.{Start, delivery_of_block, is_plain_block}
+use Rattle.stm_history_text.specs.Starts.{Start, delivery_of_block, is_plain_block}
 use Rattle.stm_waiting.specs.declared.waiting.Held.{Held}
 use Rattle.stm_history.proofs.OneReading.{AreMarked, marked_from}
 

@@ -23,7 +23,7 @@ use Rattle.stm_history.specs.Following.{Follows}
 use Rattle.stm_history.specs.Judgement.{AreEvents, FitBlocks, IsStart}
 use Rattle.stm_history.specs.Loading.{IsWholeHistory, ReportsLoadFault}
 use Rattle.stm_history.specs.Stages.{Reached}
-use Rattle.stm_history.specs.Starts.{AreOfText, BlocksAreOfText, IsLatest, Start, first_state}
+use Rattle.stm_history_text.specs.Starts.{AreOfText, BlocksAreOfText, IsLatest, Start, first_state}
 use Rattle.stm_event_lines.proofs.CheckedBlocks.{checked_are_well_typed}
 
 -- what holds of the bytes that were taken holds of the reader's, if those are known

@@ -6,8 +6,8 @@ use Rattle.stm_events.specs.SlowDesk.{IsLegal}
 use Rattle.stm_events.specs.States.{IsLegalFrom}
 use Rattle.stm_history.specs.declared.files.fault.HistoryFault.TheVariants.{NotLegal}
 use Rattle.stm_history.specs.Judgement.{IsIllegalFrom, Refuses}
-use Rattle.stm_history.specs.Starts.{first_state, table_start}
-use Rattle.stm_history.proofs.TextInParts.{cut_at}
+use Rattle.stm_history_text.specs.Starts.{first_state, table_start}
+use Rattle.stm_history_text.proofs.TextInParts.{cut_at}
 
 -- legal over a table is legal from its first state by the present rule
 pub legal_over : (table : List Declared) (hs : List Event) → IsLegalFrom (first_state (table_start table)) hs → IsLegal table hs

@@ -9,7 +9,7 @@ use Rattle.stm_history.specs.Checking.{CheckerState, at_header, at_variables, at
 use Rattle.stm_history.specs.Explanation.{Explains, IsAfterLine, ReportsWhy, line_after}
 use Rattle.stm_event_lines.specs.Lines.{event_line}
 use Rattle.stm_history.specs.Stages.{IsStage, Reached}
-use Rattle.stm_history.specs.Starts.{names_after}
+use Rattle.stm_history_text.specs.Starts.{names_after}
 use Rattle.stm_history.specs.Stopping.{IsAfter, IsReportedAfter}
 use Rattle.stm_history.proofs.CutsAtLineFeeds.{cut_unique, no_feed_at_end}
 use Rattle.stm_history.proofs.OneProgress.{one_progress}

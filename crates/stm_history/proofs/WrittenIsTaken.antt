@@ -8,9 +8,9 @@ use Rattle.stm_store.specs.declared.table.DeclareError.TheVariants.{Twice, TypeO
 use Rattle.stm_store.specs.Tables.{Declared, declare_refusal, declared_cells, may_hold, is_of, number_of}
 use Rattle.stm_history.specs.FileLaws.{WhatIsWrittenIsTaken}
 use Rattle.stm_event_lines.specs.Fits.{AreInRange}
-use Rattle.stm_history.specs.HistoryText.{history_text}
+use Rattle.stm_history_text.specs.HistoryText.{history_text}
 use Rattle.stm_history.specs.Judgement.{AreVariables, AreVariablesFrom}
-use Rattle.stm_history.specs.Starts.{Start}
+use Rattle.stm_history_text.specs.Starts.{Start}
 use Rattle.stm_events.specs.SlowDesk.{max_cells}
 
 -- what a variable that is not refused shows

@@ -15,9 +15,9 @@ use Rattle.stm_event_lines.specs.Fits.{FitsNames, FitsFormat}
 use Rattle.stm_event_lines.specs.Lines.{IsFormat, event_line, header_line, variable_line}
 use Rattle.stm_history.specs.declared.files.fault.HistoryFault.{HistoryFault}
 use Rattle.stm_history.specs.declared.files.fault.HistoryFault.TheVariants.{ReadFault, BadHeader, BadLine, NotLegal, NoMemory}
-use Rattle.stm_history.specs.HistoryText.{block_line, cells_text, checkpoint_text, head_text, history_text}
+use Rattle.stm_history_text.specs.HistoryText.{block_line, cells_text, checkpoint_text, head_text, history_text}
 use Rattle.stm_history.specs.Judgement.{IsShort, MayDeclare, AreVariables, AreEvents, FitCells, IsReadable, IsStart, NoEventNext, IsIllegalFrom, next_line}
-use Rattle.stm_history.specs.Starts.{Start, delivery_of_block, first_state, is_plain_block, names_after}
+use Rattle.stm_history_text.specs.Starts.{Start, delivery_of_block, first_state, is_plain_block, names_after}
 
 -- no byte is a line feed
 abbrev pub NoFeed : List ℕ → Type 0

@@ -13,7 +13,7 @@ use Rattle.stm_history.specs.declared.files.explanation.Explanation.{Explanation
 use Rattle.stm_history.specs.declared.files.explanation.Explanation.TheVariants.{Expected, Refused, Unreadable}
 use Rattle.stm_history.specs.Explanation.{CanStand, IsCallDue, IsSameCall, is_history_full, call_refusal}
 use Rattle.stm_history.specs.Judgement.{IsShort}
-use Rattle.stm_history.specs.Starts.{Start, state_after_start}
+use Rattle.stm_history_text.specs.Starts.{Start, state_after_start}
 use Rattle.stm_event_lines.specs.Lines.{event_line}
 use Rattle.stm_event_lines.specs.WholeBlocks.{checked_block}
 

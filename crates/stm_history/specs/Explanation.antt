@@ -20,7 +20,7 @@ use Rattle.stm_history.specs.declared.files.fault.HistoryFault.{HistoryFault}
 use Rattle.stm_history.specs.Checking.{CheckerState, at_header, at_variables, at_cells, at_blocks, at_events, Forbids, LeadsTo, LinesUpTo, NoFeed, strange}
 use Rattle.stm_event_lines.specs.Fits.{FitsNames, FitsFormat}
 use Rattle.stm_history.specs.Judgement.{IsIllegalFrom, IsShort, next_line}
-use Rattle.stm_history.specs.Starts.{Start, first_state, names_after, state_after_start}
+use Rattle.stm_history_text.specs.Starts.{Start, first_state, names_after, state_after_start}
 use Rattle.stm_event_lines.specs.Lines.{event_line}
 
 -- ---- calls

@@ -17,10 +17,10 @@ use Rattle.stm_event_lines.specs.Lines.{IsFormat, rule_of, event_line, header_li
 use Rattle.stm_history.specs.declared.files.fault.HistoryFault.{HistoryFault}
 use Rattle.stm_history.specs.declared.files.fault.HistoryFault.TheVariants.{ReadFault, BadHeader, BadLine, NotLegal, NoMemory}
 use Rattle.stm_history.specs.declared.files.fault.Legal.{Legal}
-use Rattle.stm_history.specs.HistoryText.{history_text, start_text}
+use Rattle.stm_history_text.specs.HistoryText.{history_text, start_text}
 use Rattle.stm_history.specs.Judgement.{FormatFits, IsHistory, IsStart, StartFits, ReportsFault, AreEvents, AreShortLines, numbers_from}
 use Rattle.stm_history.specs.Loading.{IsWholeHistory}
-use Rattle.stm_history.specs.Starts.{Start, first_state, read_back, written_start}
+use Rattle.stm_history_text.specs.Starts.{Start, first_state, read_back, written_start}
 
 -- different events have different lines, without a line feed
 abbrev pub EachLineIsOneEvent : Type 0

@@ -14,8 +14,8 @@ use Rattle.stm_event_lines.specs.Lines.{IsFormat, event_line}
 use Rattle.stm_history.specs.declared.files.fault.HistoryFault.{HistoryFault}
 use Rattle.stm_history.specs.declared.files.fault.HistoryFault.TheVariants.{ReadFault, BadHeader, BadLine, NotLegal, NoMemory}
 use Rattle.stm_history.specs.declared.files.fault.Legal.{Legal}
-use Rattle.stm_history.specs.HistoryText.{block_line, history_text, start_text}
-use Rattle.stm_history.specs.Starts.{Start, are_plain_blocks, delivery_of_block, first_state, names_after, state_after_start}
+use Rattle.stm_history_text.specs.HistoryText.{block_line, history_text, start_text}
+use Rattle.stm_history_text.specs.Starts.{Start, are_plain_blocks, delivery_of_block, first_state, names_after, state_after_start}
 
 -- the most bytes of a line, its line feed not counted
 abbrev pub max_line : ℕ

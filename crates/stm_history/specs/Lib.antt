@@ -1,10 +1,8 @@
 -- What a reader has to believe.
 pub mod Explanation
 pub mod FileLaws
-pub mod HistoryText
 pub mod Judgement
 pub mod Loading
-pub mod Starts
 -- And the words inside.
 pub mod Checking
 pub mod Expecting

@@ -7,7 +7,7 @@ use Rattle.stm_history.specs.declared.files.loading.LoadFault.{LoadFault}
 use Rattle.stm_history.specs.declared.files.loading.LoadFault.TheVariants.{Fault, OldFormat}
 use Rattle.stm_history.specs.declared.files.loading.Loaded.{Loaded}
 use Rattle.stm_history.specs.Judgement.{BeginsWithHistory, ReportsFault}
-use Rattle.stm_history.specs.Starts.{Start}
+use Rattle.stm_history_text.specs.Starts.{Start}
 
 -- the bytes are the text of this legal history, and nothing else
 abbrev pub IsWholeHistory : Start → List ℕ → List Event → Type 0

@@ -14,7 +14,7 @@ use Rattle.stm_history.specs.declared.files.fault.HistoryFault.{HistoryFault}
 use Rattle.stm_history.specs.declared.files.fault.HistoryFault.TheVariants.{BadHeader, NoMemory}
 use Rattle.stm_history.specs.Checking.{CheckerState, at_header, at_variables, at_cells, at_blocks, at_events, HasTaken, IsCheckpointHead, LeadsTo}
 use Rattle.stm_history.specs.Following.{Follows}
-use Rattle.stm_history.specs.Starts.{IsLatest}
+use Rattle.stm_history_text.specs.Starts.{IsLatest}
 
 -- the progress is that of the stage
 abbrev pub IsStage : Stage → CheckerState → Type 0

@@ -24,8 +24,8 @@ use Rattle.stm_events.specs.declared.errors.LabelError.TheVariants as label
 use Rattle.stm_store.specs.declared.cell.Cell.{Cell}
 use Rattle.stm_machine.specs.declared.checkpoint.CheckpointBlock.{CheckpointBlock}
 use Rattle.stm_machine.specs.Checkpoints.{CheckpointView}
-use Rattle.stm_history.specs.HistoryText.{variable_lines, event_lines, cell_lines_from, cell_lines, block_line, block_lines, cells_text, text_before, start_text, history_text}
-use Rattle.stm_history.specs.Starts.{Start}
+use Rattle.stm_history_text.specs.HistoryText.{variable_lines, event_lines, cell_lines_from, cell_lines, block_line, block_lines, cells_text, text_before, start_text, history_text}
+use Rattle.stm_history_text.specs.Starts.{Start}
 use Rattle.stm_event_lines.specs.CheckpointLines.{cell_line, checkpoint_header_line}
 use Rattle.stm_event_lines.specs.Lines.{event_line, header_line, variable_line}
 use Rattle.stm_blocks.specs.declared.refusal.Refusal.{Refusal}

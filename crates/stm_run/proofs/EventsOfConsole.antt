@@ -75,7 +75,7 @@ use Rattle.stm_run.specs.LineCheckpoints.{command_checkpoints, word_checkpoints,
 use Rattle.stm_run.proofs.DeclaredVariables.{MayBeNext, may_be_next}
 use Rattle.stm_parse.specs.ParseFunction.{DeclarationAnswersAreRight}
 use Rattle.stm_history.specs.Judgement.{MayDeclare, AreVariablesFrom}
-use Rattle.stm_history.specs.Starts.{AreOfText, BlocksAreOfText}
+use Rattle.stm_history_text.specs.Starts.{AreOfText, BlocksAreOfText}
 use Rattle.stm_run.proofs.ArgumentCases.{either_has, number_has, nothing_has}
 use Rattle.stm_run.proofs.GivenLabels.{GivesLabel, gives_label}
 use Rattle.std.specs.Prelude.{codes}

@@ -3,7 +3,7 @@ use Rattle.std.specs.Prelude.{Bool, true, false, List, Option}
 use Rattle.stm_store.specs.Tables.{Declared}
 use Rattle.stm_events.specs.declared.event.Event.{Event}
 use Rattle.stm_machine.specs.Checkpoints.{CheckpointView}
-use Rattle.stm_history.specs.Starts.{Start, written_start}
+use Rattle.stm_history_text.specs.Starts.{Start, written_start}
 use Rattle.stm_run.specs.declared.console.Console.{Console}
 use Rattle.stm_run.specs.declared.console.Console.TheVariants.{Declaring, Open}
 use Rattle.stm_commands.specs.Checkpointing.{begun_anew}

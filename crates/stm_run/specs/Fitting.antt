@@ -13,7 +13,7 @@ use Rattle.stm_events.specs.Labels.{is_label}
 use Rattle.stm_events.specs.SlowDesk as slow
 use Rattle.stm_event_lines.specs.Fits.{Is32Bit, FitNumbers, FitsNames, FitsVerdict}
 use Rattle.stm_history.specs.Judgement.{AreVariables}
-use Rattle.stm_history.specs.Starts.{BlocksAreOfText}
+use Rattle.stm_history_text.specs.Starts.{BlocksAreOfText}
 use Rattle.stm_event_lines.specs.WholeBlocks.{checked_block}
 use Rattle.stm_desk.specs.DeskView.{DeskView, start_state, state_of}
 use Rattle.stm_blocks.specs.DeclaredVariable.{late_variable_of}

@@ -1,7 +1,7 @@
 //! What the console knows, and its answer to a line.
 
 ghost use Rattle.std.specs.Prelude.{◌≡◌, ◌++◌, [], true, false, not, length, Some, is_some, string_bytes, OnOk, OnErr, IfOk, IfSome};
-ghost use Rattle.stm_history.specs.HistoryText.{WritesText};
+ghost use Rattle.stm_history_text.specs.HistoryText.{WritesText};
 ghost use Rattle.stm_commands.specs.Contents.{history_answer};
 ghost use Rattle.stm_commands.specs.Labelling.{label_step, block_answer, board_answer};
 ghost use Rattle.stm_commands.specs.OpenDesk.{Steps};
@@ -27,7 +27,7 @@ use stm_blocks::declaring::declare;
 use stm_commands::refusals::{refuse, refuse_argument, write_refusal};
 use stm_commands::{OpenDesk, Threading};
 use stm_desk::{Checkpoint, Desk};
-use stm_history::WriteFault;
+use stm_history_text::WriteFault;
 use stm_lines::arguments::number_of;
 use stm_lines::judging::{Judgement, judge};
 use stm_store::{Seed, Table};

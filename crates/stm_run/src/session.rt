@@ -14,7 +14,7 @@ use std::alloc::Global;
 use std::io::Write;
 use std::thread::Threads;
 use stm_commands::Threading;
-use stm_history::WriteFault;
+use stm_history_text::WriteFault;
 use stm_lines::RunFault;
 use stm_lines::output::write_text;
 use stm_store::Seed;

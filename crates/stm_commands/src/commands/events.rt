@@ -1,7 +1,7 @@
 //! `history` and `events`: what happened, and what happened since an event.
 
 ghost use Rattle.std.specs.Prelude.{◌≡◌, ◌++◌, ◌∷◌, [], ◌-◌, drop, codes, decimal};
-ghost use Rattle.stm_history.specs.HistoryText.{WritesText, event_lines};
+ghost use Rattle.stm_history_text.specs.HistoryText.{WritesText, event_lines};
 ghost use Rattle.stm_commands.specs.Contents.{events_text};
 ghost use Rattle.stm_commands.specs.Questions.{later_lines, later_events_text};
 
@@ -9,8 +9,7 @@ use crate::open_desk::OpenDesk;
 use std::alloc::Global;
 use std::io::Write;
 use stm_events::Event;
-use stm_history::files::writing::{write_events, write_line};
-use stm_history::{WriteFault, write_history};
+use stm_history_text::{WriteFault, write_events, write_history, write_line};
 use stm_terms::NoMemory;
 
 /// How many events come before the n-th, counted from 1; none before the first, and for 0.

@@ -10,7 +10,7 @@ ghost use Rattle.stm_history.specs.Reading.{FailsIn, IsReadingFault, TakesLine, 
 ghost use Rattle.stm_event_lines.specs.Fits.{FitsNames, FitsFormat};
 ghost use Rattle.stm_history.specs.Following.{Follows};
 ghost use Rattle.stm_history.specs.Judgement.{IsHistory, IsShort, ReportsFault, lines_before, next_line};
-ghost use Rattle.stm_history.specs.Starts.{Start, names_after};
+ghost use Rattle.stm_history_text.specs.Starts.{Start, names_after};
 ghost use Rattle.stm_event_lines.specs.Lines.{event_line};
 ghost use Rattle.stm_history.specs.declared.files.check.Stage.TheVariants.{Running};
 ghost use Rattle.stm_history.specs.Stages.{keeps, IsRunning, IsStage, CountsWithinLimits, LeadsToStage, Reached, refused_by};

@@ -18,7 +18,7 @@ ghost use Rattle.stm_history.specs.declared.files.explanation.CallRefusal.TheVar
 ghost use Rattle.stm_history.specs.declared.files.expecting.Expectation.TheVariants.{Refuses};
 ghost use Rattle.stm_history.specs.Expecting.{HasName, IsDueOn, IsDueAfter};
 ghost use Rattle.stm_history.specs.Following.{Follows};
-ghost use Rattle.stm_history.specs.Starts.{Start};
+ghost use Rattle.stm_history_text.specs.Starts.{Start};
 
 use crate::files::explanation::CallRefusal;
 use crate::files::replayer::{MAX_EVENTS, Replayer};

@@ -13,7 +13,7 @@ ghost use Rattle.stm_history.specs.Explanation.{Explains, ExplainsEvent, Explain
 ghost use Rattle.stm_event_lines.specs.CheckpointLines.{FitsCell, FitsWaiting, IsCheckpointFormat, cell_line};
 ghost use Rattle.stm_event_lines.specs.Fits.{FitsNames, FitsVerdict, FitNews, FitsVariable, WhatFitsNames};
 ghost use Rattle.stm_history.specs.Following.{Follows};
-ghost use Rattle.stm_history.specs.Starts.{Start, names_after};
+ghost use Rattle.stm_history_text.specs.Starts.{Start, names_after};
 ghost use Rattle.stm_event_lines.specs.Lines.{IsFormat, variable_line};
 ghost use Rattle.stm_history.specs.Stages.{CountsWithinLimits, IsStage};
 ghost use Rattle.stm_event_lines.specs.Variables.{declared};

@@ -7,7 +7,7 @@ ghost use Rattle.stm_events.specs.States.{IsLegalFrom};
 ghost use Rattle.stm_event_lines.specs.Lines.{declaring_format, latest_format};
 ghost use Rattle.stm_machine.specs.Checkpoints.{MayStart, start_of};
 ghost use Rattle.stm_history.specs.Loading.{HasText, IsWholeHistory, ReportsLoadFault, loaded_start};
-ghost use Rattle.stm_history.specs.Starts.{BlocksAreOfText, IsLatest};
+ghost use Rattle.stm_history_text.specs.Starts.{BlocksAreOfText, IsLatest};
 ghost use Rattle.stm_history.specs.Stages.{keeps, Reached, IsLoaded};
 ghost use Rattle.stm_events.specs.SlowDesk.{state_from};
 ghost use Rattle.stm_machine.specs.Machine.{IsAt};

@@ -1,4 +1,4 @@
-//! Whole histories: written, checked line by line, and replayed.
+//! Whole histories: checked line by line, replayed and loaded.
 
 pub mod beginning;
 pub mod check;
@@ -13,4 +13,5 @@ pub mod replayer;
 pub mod replaying;
 pub mod stepping;
 pub mod why;
-pub mod writing;
+
+pub use stm_history_text::writing;

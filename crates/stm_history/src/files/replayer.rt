@@ -37,7 +37,7 @@ impl Replayer {
     ghost use Rattle.stm_events.specs.declared.event.Event.{Event};
     ghost use Rattle.stm_history.specs.Following.{Follows};
     ghost use Rattle.stm_history.specs.Judgement.{numbers_from};
-    ghost use Rattle.stm_history.specs.Starts.{Start, names_after};
+    ghost use Rattle.stm_history_text.specs.Starts.{Start, names_after};
 
     /// The variables of a table, in a format, and no event. The caller says whether events are to be kept.
     pub(crate) fn open(

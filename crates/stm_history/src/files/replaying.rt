@@ -4,7 +4,7 @@ ghost use Rattle.std.specs.Prelude.{◌≡◌, [], List, IfOk, IfErr, OnOk};
 ghost use Rattle.stm_store.specs.Tables.{Declared};
 ghost use Rattle.stm_history.specs.Following.{Follows};
 ghost use Rattle.stm_history.specs.Judgement.{numbers, Refuses};
-ghost use Rattle.stm_history.specs.Starts.{table_start};
+ghost use Rattle.stm_history_text.specs.Starts.{table_start};
 ghost use Rattle.stm_events.specs.SlowDesk.{IsLegal};
 
 use crate::files::fault::{HistoryFault, Legal};

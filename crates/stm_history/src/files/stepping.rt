@@ -11,7 +11,7 @@ ghost use Rattle.stm_machine.specs.Machine.{IsAt, HasTicketLeft, MayDeliver, Mov
 ghost use Rattle.stm_machine.specs.Plans.{IsPlan};
 ghost use Rattle.stm_history.specs.Following.{IsForbidden, Follows};
 ghost use Rattle.stm_history.specs.Judgement.{IsIllegalFrom};
-ghost use Rattle.stm_history.specs.Starts.{Start};
+ghost use Rattle.stm_history_text.specs.Starts.{Start};
 
 use crate::files::replayer::{MAX_EVENTS, Replayer};
 use stm_check::SharedBlock;

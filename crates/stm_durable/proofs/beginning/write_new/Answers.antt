@@ -1,4 +1,4 @@
-use Rattle.stm_history.specs.HistoryText.{history_text}
+use Rattle.stm_history_text.specs.HistoryText.{history_text}
 use Rattle.stm_journal.proofs.Faults.{only_too_long}
 use Rattle.stm_durable.specs.Durable.{lent_start}
 use Rattle.stm_durable.proofs.LinesMeasured.{start_measured, short_if_ok, long_if}

@@ -1,4 +1,4 @@
-use Rattle.stm_history.proofs.TextInParts.{part_after, part_within}
+use Rattle.stm_history_text.proofs.TextInParts.{part_after, part_within}
 use Rattle.stm_durable.proofs.beginning.write_whole.Goals as goal
 
 pub returns-in-Err : goal.returns-in-Err

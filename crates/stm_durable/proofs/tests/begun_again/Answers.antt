@@ -3,7 +3,7 @@ use Rattle.stm_events.specs.declared.event.Event.{Event}
 use Rattle.stm_events.specs.SlowDesk.{Slow}
 use Rattle.stm_machine.specs.Checkpoints.{CheckpointView}
 use Rattle.stm_history.specs.Loading.{loaded_start}
-use Rattle.stm_history.specs.Starts.{first_state}
+use Rattle.stm_history_text.specs.Starts.{first_state}
 use Rattle.stm_durable.specs.Durable.{FitLines}
 use Rattle.stm_durable.proofs.RepairedFiles.{in_its_format, some_history, text_of}
 use Rattle.stm_durable.proofs.Texts.{fits_again, fits_none}

@@ -2,7 +2,7 @@ use Rattle.std.proofs.Common.{[], Option, refl, sym, subst}
 use Rattle.stm_events.specs.declared.event.Event.{Event}
 use Rattle.stm_machine.specs.Checkpoints.{CheckpointView}
 use Rattle.stm_history.specs.Loading.{loaded_start}
-use Rattle.stm_history.specs.Starts.{first_state}
+use Rattle.stm_history_text.specs.Starts.{first_state}
 use Rattle.stm_durable.specs.Durable.{FitLines}
 use Rattle.stm_durable.proofs.RepairedFiles.{none_yet, text_of}
 use Rattle.stm_durable.proofs.Texts.{fits_again}

@@ -1,6 +1,6 @@
 use Rattle.std.proofs.Common.{take, rules}
 use Rattle.stm_history.proofs.HistoryLabels.{one_event_more}
-use Rattle.stm_history.proofs.TextInParts.{next_at}
+use Rattle.stm_history_text.proofs.TextInParts.{next_at}
 use Rattle.stm_history.proofs.files.labels.follow_labels.Goals as goal
 
 pub loop-event-preserved : goal.loop-event-preserved

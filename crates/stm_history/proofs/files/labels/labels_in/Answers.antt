@@ -1,6 +1,6 @@
 use Rattle.std.proofs.Common.{◌+◌, take, rules}
 use Rattle.stm_history.proofs.HistoryLabels.{one_block_more}
-use Rattle.stm_history.proofs.TextInParts.{next_at}
+use Rattle.stm_history_text.proofs.TextInParts.{next_at}
 use Rattle.stm_history.proofs.files.labels.labels_in.Goals as goal
 
 pub loop-block-preserved : goal.loop-block-preserved

@@ -2,7 +2,7 @@ use Rattle.std.proofs.Common.{subst}
 use Rattle.stm_events.specs.SlowDesk.{Slow}
 use Rattle.stm_events.specs.States.{IsLegalFrom}
 use Rattle.stm_history.specs.Loading.{IsWholeHistory, loaded_start}
-use Rattle.stm_history.specs.Starts.{first_state}
+use Rattle.stm_history_text.specs.Starts.{first_state}
 use Rattle.stm_history.proofs.ReadToTheEnd.{at_taken, blocks_of_text, events_typed, first_is, may_start}
 use Rattle.stm_history.proofs.files.loading.load_history.Goals as goal
 

@@ -1,4 +1,4 @@
-use Rattle.stm_history.specs.Starts.{table_start}
+use Rattle.stm_history_text.specs.Starts.{table_start}
 use Rattle.stm_history.proofs.ReplayFaults.{legal_over}
 use Rattle.stm_history.proofs.files.replaying.replay.Goals as goal
 

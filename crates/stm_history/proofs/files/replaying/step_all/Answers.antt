@@ -1,8 +1,8 @@
 use Rattle.std.proofs.Common.{◌+◌, List, take, rules, sym, ap, subst}
 use Rattle.stm_events.specs.declared.event.Event.{Event}
 use Rattle.stm_history.specs.Following.{Follows}
-use Rattle.stm_history.specs.Starts.{table_start}
-use Rattle.stm_history.proofs.TextInParts.{next_at}
+use Rattle.stm_history_text.specs.Starts.{table_start}
+use Rattle.stm_history_text.proofs.TextInParts.{next_at}
 use Rattle.stm_history.proofs.ReplayFaults.{refused_at}
 use Rattle.stm_history.proofs.files.replaying.step_all.Goals as goal
 

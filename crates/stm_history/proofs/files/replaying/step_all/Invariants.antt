@@ -1,7 +1,7 @@
 use Rattle.std.proofs.Common.{List, [], take}
 use Rattle.stm_store.specs.Tables.{Declared}
 use Rattle.stm_history.specs.Following.{Follows}
-use Rattle.stm_history.specs.Starts.{table_start}
+use Rattle.stm_history_text.specs.Starts.{table_start}
 use Rattle.stm_history.proofs.files.replaying.step_all.Given as goal
 
 abbrev pub invariant-loop-event : goal.invariant-loop-event

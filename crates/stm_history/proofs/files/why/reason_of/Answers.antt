@@ -1,5 +1,5 @@
 use Rattle.std.proofs.Common.{sym, ◌∙◌}
-use Rattle.stm_history.proofs.TextInParts.{drop-all}
+use Rattle.stm_history_text.proofs.TextInParts.{drop-all}
 use Rattle.stm_history.proofs.WhereLinesStop.{why_at}
 use Rattle.stm_history.proofs.files.why.reason_of.Goals as goal
 

@@ -1,7 +1,7 @@
 use Rattle.std.proofs.Common.{ℕ, sym, subst}
 use Rattle.stm_history.specs.declared.files.check.Stage.{Stage}
 use Rattle.stm_history.specs.Stages.{IsLoaded, Reached}
-use Rattle.stm_history.specs.Starts.{IsLatest}
+use Rattle.stm_history_text.specs.Starts.{IsLatest}
 use Rattle.stm_history.proofs.ReadToTheEnd.{loaded_at, loaded_history}
 use Rattle.stm_history.proofs.files.check.Checker.into_loaded.Goals as goal
 

@@ -3,7 +3,7 @@ use Rattle.std.specs.Prelude.{nat_le}
 use Rattle.stm_events.specs.SlowDesk.{max_events}
 use Rattle.stm_history.proofs.DueEvents.{expect_due, has_room}
 use Rattle.stm_history.proofs.AllowedEvents.{ticket_left}
-use Rattle.stm_history.specs.Starts.{state_after_start}
+use Rattle.stm_history_text.specs.Starts.{state_after_start}
 use Rattle.stm_history.proofs.files.replayer.Replayer.expect.Goals as goal
 
 pub due-requires-clause-at : goal.due-requires-clause-at

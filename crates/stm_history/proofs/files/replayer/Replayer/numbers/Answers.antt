@@ -1,6 +1,6 @@
 use Rattle.std.proofs.Common.{arith}
 use Rattle.std.proofs.lemmas.Grind.{common_steps}
-use Rattle.stm_history.specs.Starts.{state_after_start}
+use Rattle.stm_history_text.specs.Starts.{state_after_start}
 use Rattle.stm_history.proofs.files.replayer.Replayer.numbers.Goals as goal
 
 pub overflow_cast-result : goal.overflow_cast-result

@@ -1,5 +1,5 @@
-use Rattle.stm_history.proofs.TextInParts.{table_1, table_2, table_whole}
-use Rattle.stm_history.proofs.files.writing.write_table.Goals as goal
+use Rattle.stm_history_text.proofs.TextInParts.{table_1, table_2, table_whole}
+use Rattle.stm_history_text.proofs.writing.write_table.Goals as goal
 
 pub returns-in-Err : goal.returns-in-Err
 returns-in-Err g c = table_1 c.args.format c.args.table.now _ _ _ c.len.ensures.len c.in-Err.ensures

@@ -1,6 +1,6 @@
 use Rattle.std.proofs.Common.{◌≡◌, length, ap, ◌∙◌, arith}
-use Rattle.stm_history.proofs.TextInParts.{IsWrittenFrom, checkpoint_1, checkpoint_2, checkpoint_3, checkpoint_whole}
-use Rattle.stm_history.proofs.files.writing.write_checkpoint.Goals as goal
+use Rattle.stm_history_text.proofs.TextInParts.{IsWrittenFrom, checkpoint_1, checkpoint_2, checkpoint_3, checkpoint_whole}
+use Rattle.stm_history_text.proofs.writing.write_checkpoint.Goals as goal
 
 pub returns-in-Err : goal.returns-in-Err
 returns-in-Err g c =

@@ -1,7 +1,7 @@
 use Rattle.std.proofs.Common.{take}
 use Rattle.std.specs.Io.KnownBytes.{Appends}
-use Rattle.stm_history.specs.HistoryText.{cell_lines}
-use Rattle.stm_history.proofs.files.writing.write_cells.Given as goal
+use Rattle.stm_history_text.specs.HistoryText.{cell_lines}
+use Rattle.stm_history_text.proofs.writing.write_cells.Given as goal
 
 abbrev pub invariant-loop-id : goal.invariant-loop-id
 invariant-loop-id g l = Appends (g.W.Write.contents l.initial.writer) (g.W.Write.contents l.writer) (cell_lines l.names (take l.id l.store))

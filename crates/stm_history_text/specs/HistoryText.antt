@@ -12,7 +12,7 @@ use Rattle.stm_machine.specs.declared.checkpoint.CheckpointBlock.{CheckpointBloc
 use Rattle.stm_machine.specs.Checkpoints.{CheckpointView}
 use Rattle.stm_event_lines.specs.CheckpointLines.{cell_line, checkpoint_header_line, waiting_line}
 use Rattle.stm_event_lines.specs.Lines.{event_line, header_line, variable_line}
-use Rattle.stm_history.specs.Starts.{Start, delivery_of_block}
+use Rattle.stm_history_text.specs.Starts.{Start, delivery_of_block}
 
 -- the lines of declared variables, with their line feeds
 abbrev pub variable_lines : List Declared → List ℕ

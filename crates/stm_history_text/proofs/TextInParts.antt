@@ -13,8 +13,7 @@ use Rattle.stm_machine.specs.declared.checkpoint.CheckpointBlock.{CheckpointBloc
 use Rattle.stm_machine.specs.Checkpoints.{CheckpointView}
 use Rattle.stm_event_lines.specs.CheckpointLines.{cell_line, checkpoint_header_line}
 use Rattle.stm_event_lines.specs.Lines.{event_line, header_line, variable_line}
-use Rattle.stm_history.proofs.CellNames.{lines-append}
-use Rattle.stm_history.specs.HistoryText.{block_line, block_lines, cell_lines, cell_lines_from, checkpoint_text, history_text, event_lines, head_text, variable_lines, WritesFront}
+use Rattle.stm_history_text.specs.HistoryText.{block_line, block_lines, cell_lines, cell_lines_from, checkpoint_text, history_text, event_lines, head_text, variable_lines, WritesFront}
 
 -- the rest of a slice
 pub drop-all : (at : ℕ) (text : List ℕ) → take (length text - at) (drop at text) ≡ drop at text
@@ -61,6 +60,14 @@ event_lines-append (x ∷ xs) ys = ap (λ l. event_line x ++ 10 ∷ l) (event_li
 pub block_lines-append : (xs ys : List CheckpointBlock) → block_lines (xs ++ ys) ≡ block_lines xs ++ block_lines ys
 block_lines-append [] ys = refl
 block_lines-append (x ∷ xs) ys = ap (λ l. block_line x ++ 10 ∷ l) (block_lines-append xs ys) ∙ sym (append_assoc (block_line x) (10 ∷ block_lines xs) (block_lines ys))
+
+-- the lines of variables of a store, which have names by their numbers
+pub lines-append : (i : ℕ) (names : List Named) (xs ys : List Cell) → cell_lines_from i names (xs ++ ys) ≡ cell_lines_from i names xs ++ cell_lines_from (i + length xs) names ys
+lines-append i names [] ys = let same : i ≡ i + 0 = omega arith in ap (λ (k : ℕ). cell_lines_from k names ys) same
+lines-append i names (c ∷ xs) ys =
+    let same : i + 1 + length xs ≡ i + suc (length xs) = omega arith in
+    ap (λ (l : List ℕ). cell_line (name_numbered i names) c ++ 10 ∷ l) (lines-append (i + 1) names xs ys ∙ ap (λ (k : ℕ). cell_lines_from (i + 1) names xs ++ cell_lines_from k names ys) same)
+    ∙ sym (append_assoc (cell_line (name_numbered i names) c) (10 ∷ cell_lines_from (i + 1) names xs) (cell_lines_from (i + suc (length xs)) names ys))
 
 -- ---- a line, and what follows its line feed
 line_part : (line more : List ℕ) (a b : Option (List ℕ)) → WritesFront a b (line ++ 10 ∷ []) → WritesFront a b (line ++ 10 ∷ more)

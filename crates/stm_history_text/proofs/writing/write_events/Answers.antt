@@ -1,7 +1,7 @@
 use Rattle.std.proofs.Common.{rules}
-use Rattle.stm_history.specs.HistoryText.{event_lines}
-use Rattle.stm_history.proofs.TextInParts.{part_of, whole_of, event_lines-append}
-use Rattle.stm_history.proofs.files.writing.write_events.Goals as goal
+use Rattle.stm_history_text.specs.HistoryText.{event_lines}
+use Rattle.stm_history_text.proofs.TextInParts.{part_of, whole_of, event_lines-append}
+use Rattle.stm_history_text.proofs.writing.write_events.Goals as goal
 
 pub returns-in-Err : goal.returns-in-Err
 returns-in-Err g c = part_of event_lines event_lines-append c.args.history.now c.loop-event.event-index c.event-item.result (search rules) c.event-item.is _ _ _ c.loop-event.invariant c.in-Err.ensures

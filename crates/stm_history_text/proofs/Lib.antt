@@ -1,0 +1,2 @@
+-- A text that is written part by part.
+pub mod TextInParts
