@@ -31,8 +31,9 @@ use stm_lines::RunFault;
 use stm_lines::output::{flush, write_flushed};
 use stm_options::{ExploreOptions, Options};
 use stm_run::run;
+use stm_script::ScriptFault;
 use stm_store::Seed;
-use stm_storm::{ScriptFault, StormFault, storm};
+use stm_storm::{StormFault, storm};
 use stm_words::version::version_line;
 use stm_words::{Request, read_words};
 

@@ -8,8 +8,8 @@ use crate::status::{BAD_SCRIPT, FAULTY, INCOMPLETE, NO_ROOM, RIGHT};
 use std::alloc::{AllocError, Global};
 use stm_exploration::{ExploreFault, write_exploration, write_fault_history};
 use stm_options::ExploreOptions;
+use stm_script::ScriptFault;
 use stm_store::Seed;
-use stm_storm::ScriptFault;
 use stm_terms::NoMemory;
 
 /// The options of an exploration, as C gives them.

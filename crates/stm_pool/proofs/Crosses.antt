@@ -35,8 +35,8 @@ use Rattle.stm_desk.specs.contracts.desk.Desk as desk
 use Rattle.stm_pool.specs.contracts.pass.Pass as pass
 use Rattle.stm_pool.specs.contracts.guarded.Guarded as guarded
 use Rattle.stm_pool.specs.contracts.shared.SharedDesk as shared
-use Rattle.stm_pool.specs.contracts.section.Section as section
-use Rattle.stm_pool.specs.contracts.section.Task as task
+use Rattle.stm_script.specs.contracts.section.Section as section
+use Rattle.stm_script.specs.contracts.section.Task as task
 use Rattle.stm_pool.specs.contracts.threads.Errand as errand
 
 -- ---- jobs and messages

@@ -4,7 +4,3 @@ use Rattle.std.specs.Prelude.{ℕ}
 -- how many threads may evaluate blocks
 abbrev pub max_workers : ℕ
 max_workers = 64
-
--- how many sections a storm may have
-abbrev pub max_sections : ℕ
-max_sections = 64

@@ -2,13 +2,13 @@
 
 use crate::errors::ViewError;
 use crate::pass::Pass;
-use crate::section::{Section, Task};
 use crate::shared::SharedDesk;
 use std::alloc::Global;
 use std::sync::Wait;
 use std::sync::ledger::Ledger;
 use stm_check::SharedBlock;
 use stm_desk::{CancelError, FinishError, SubmitError};
+use stm_script::{Section, Task};
 use stm_terms::NoMemory;
 use stm_terms::values::Value;
 

@@ -15,7 +15,7 @@
 //! a job, `specs/Own` what a pass knows of its client's events and when a history has them,
 //! `specs/Shown` what a view shows a client, `specs/Found` what store comes with a job that a
 //! worker finds, `specs/Worked` what a worker adds to its pass, and `specs/Storms` what a storm's
-//! counts say of the history. `specs/Limits` says how many workers and sections
+//! counts say of the history. `specs/Limits` says how many workers
 //! there may be.
 #![tactic(auto)]
 
@@ -37,7 +37,6 @@ pub mod worker;
 // Clients and workers in threads of their own.
 mod client;
 mod counting;
-pub mod section;
 pub mod storm;
 mod threads;
 
@@ -47,7 +46,7 @@ pub use close::Report;
 pub use errors::{CloseError, ViewError};
 pub use guarded::{Guarded, View};
 pub use pass::Pass;
-pub use section::{Section, Task};
 pub use shared::SharedDesk;
+pub use stm_script::{Section, Task, section};
 pub use storm::{Counts, MAX_SECTIONS, StormEnd, run_storm};
 pub use worker::{Gate, WorkEnd, work};

@@ -4,13 +4,13 @@ ghost use Rattle.std.specs.Prelude.{◌≡◌, ◌+◌, ◌<◌, ◌≤◌, leng
 ghost use Rattle.stm_eval.specs.Limits.{max_levels};
 ghost use Rattle.stm_events.specs.SlowDesk.{max_events as most_events};
 ghost use Rattle.stm_pool.specs.Counted.{CountsPasses};
-ghost use Rattle.stm_pool.specs.Limits.{max_sections, max_workers};
+ghost use Rattle.stm_pool.specs.Limits.{max_workers};
+ghost use Rattle.stm_script.specs.Limits.{max_sections};
 ghost use Rattle.stm_pool.specs.Storms.{CountsDesk};
 
 use crate::close::Report;
 use crate::counting::counts_of;
 use crate::pass::Pass;
-use crate::section::Section;
 use crate::shared::SharedDesk;
 use crate::threads::{Returned, run_all};
 use std::alloc::Global;
@@ -18,11 +18,10 @@ use std::marker::Brand;
 use std::sync::Wait;
 use std::sync::ledger::{Blank, Ledger};
 use std::thread::Threads;
+pub use stm_script::MAX_SECTIONS;
+use stm_script::Section;
 use stm_store::Table;
 use stm_terms::NoMemory;
-
-/// How many sections a storm may have.
-pub const MAX_SECTIONS: usize = 64;
 
 /// What the tasks of a client came to. A task counts under one of them, or, where an expected value
 /// was there, under none.

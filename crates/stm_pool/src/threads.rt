@@ -6,7 +6,6 @@ ghost use Rattle.stm_eval.specs.Limits.{max_levels};
 
 use crate::client::{Extra, do_section};
 use crate::pass::Pass;
-use crate::section::Section;
 use crate::shared::SharedDesk;
 use crate::worker::{Gate, WorkEnd, work};
 use std::alloc::Global;
@@ -14,6 +13,7 @@ use std::sync::Wait;
 use std::sync::ledger::Ledger;
 use std::thread;
 use std::thread::{JoinHandle, Threads};
+use stm_script::Section;
 
 /// A gate that stands open.
 #[derive(Clone, Copy)]

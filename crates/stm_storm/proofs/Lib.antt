@@ -1,3 +1,1 @@
 pub mod ClientLines
-pub mod FewSections
-pub mod ReadScript

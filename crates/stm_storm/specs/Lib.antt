@@ -1,8 +1,5 @@
--- What a reader has to believe: what a script says, and what a storm of it writes.
-pub mod FaultText
+-- What a reader has to believe: which history a storm of a script leaves, and what it writes.
 pub mod StormHistory
-pub mod StormScript
 pub mod StormText
--- The words inside, for a script that is read line by line.
-pub mod ScriptReading
+-- The words inside, for the replay of what it leaves.
 pub mod StormEnd

@@ -3,7 +3,7 @@ use Rattle.std.specs.Prelude.{◌≡◌, ℕ, ◌+◌, List, [], ◌∷◌, ◌+
 use Rattle.stm_events.specs.declared.event.Event.{Event}
 use Rattle.stm_pool.specs.declared.storm.Counts.{Counts}
 use Rattle.stm_storm.specs.StormHistory.{IsStormHistory}
-use Rattle.stm_storm.specs.StormScript.{StormScript, storm_script}
+use Rattle.stm_script.specs.StormScript.{StormScript, storm_script}
 
 -- the line of a client
 unfoldable pub client_line : ℕ → Counts → List ℕ

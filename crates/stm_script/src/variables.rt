@@ -3,7 +3,7 @@
 ghost use Rattle.std.specs.Prelude.{◌≡◌, ◌<◌, ◌-◌, [], length, take, OnOk};
 ghost use Rattle.stm_blocks.specs.DeclaredVariable.{variable_of};
 ghost use Rattle.stm_store.specs.Naming.{named_in_table};
-ghost use Rattle.stm_storm.specs.ScriptReading.{DeclaresNext};
+ghost use Rattle.stm_script.specs.ScriptReading.{DeclaresNext};
 
 use std::alloc::Global;
 use std::marker::Model;

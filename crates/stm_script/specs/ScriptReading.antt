@@ -3,19 +3,19 @@ use Rattle.std.specs.Prelude.{◌≡◌, ◌≤◌, ℕ, ◌+◌, nat_lt, List, 
 use Rattle.stm_blocks.specs.declared.refusal.Refusal.{Refusal}
 use Rattle.stm_blocks.specs.OutOfMemory.{IsOutOfMemory}
 use Rattle.stm_store.specs.Tables.{Declared}
-use Rattle.stm_pool.specs.declared.section.Section.{Section}
-use Rattle.stm_pool.specs.declared.section.Task.{Task}
-use Rattle.stm_pool.specs.Limits.{max_sections}
-use Rattle.stm_storm.specs.declared.script_line.LineFault.{LineFault}
-use Rattle.stm_storm.specs.declared.script_line.LineFault.TheVariants.{Faulty}
-use Rattle.stm_storm.specs.declared.script_fault.Reason.{Reason}
-use Rattle.stm_storm.specs.declared.script_fault.Reason.TheVariants.{Refused, ScriptTooLong}
-use Rattle.stm_storm.specs.declared.script_fault.ScriptFault.{ScriptFault}
-use Rattle.stm_storm.specs.declared.script_so_far.ScriptSoFar.{ScriptSoFar}
-use Rattle.stm_storm.specs.declared.script_reader.Script.{Script}
+use Rattle.stm_script.specs.declared.section.Section.{Section}
+use Rattle.stm_script.specs.declared.section.Task.{Task}
+use Rattle.stm_script.specs.Limits.{max_sections}
+use Rattle.stm_script.specs.declared.script_line.LineFault.{LineFault}
+use Rattle.stm_script.specs.declared.script_line.LineFault.TheVariants.{Faulty}
+use Rattle.stm_script.specs.declared.script_fault.Reason.{Reason}
+use Rattle.stm_script.specs.declared.script_fault.Reason.TheVariants.{Refused, ScriptTooLong}
+use Rattle.stm_script.specs.declared.script_fault.ScriptFault.{ScriptFault}
+use Rattle.stm_script.specs.declared.script_so_far.ScriptSoFar.{ScriptSoFar}
+use Rattle.stm_script.specs.declared.script_reader.Script.{Script}
 use Rattle.stm_lines.specs.LineClass.{LineClass}
 use Rattle.stm_lines.specs.LineReading.{classes_from}
-use Rattle.stm_storm.specs.StormScript.{Begun, PartialScript, StormScript, faulty_line, most_lines, numbered_result, after_class, script_result, sections_so_far, storm_script}
+use Rattle.stm_script.specs.StormScript.{Begun, PartialScript, StormScript, faulty_line, most_lines, numbered_result, after_class, script_result, sections_so_far, storm_script}
 
 -- what the definitions of scripts give, as the calls return it
 abbrev pub or_faulty : {Y : Type 0} → Result Y Reason → Result Y LineFault

@@ -8,8 +8,8 @@ use Rattle.stm_store.specs.declared.table.DeclareError.{DeclareError}
 use Rattle.stm_store.specs.declared.table.DeclareError.TheVariants as declare
 use Rattle.stm_blocks.specs.declared.refusal.Refusal.{Refusal}
 use Rattle.stm_blocks.specs.declared.refusal.Refusal.TheVariants.{Parsing, Typing, Unknown, Declaring}
-use Rattle.stm_storm.specs.declared.script_fault.Reason.{Reason}
-use Rattle.stm_storm.specs.declared.script_fault.Reason.TheVariants.{LineTooLong, NotAscii, Command, Argument, Late, NoClient, ClientsFull, ScriptTooLong, Refused}
+use Rattle.stm_script.specs.declared.script_fault.Reason.{Reason}
+use Rattle.stm_script.specs.declared.script_fault.Reason.TheVariants.{LineTooLong, NotAscii, Command, Argument, Late, NoClient, ClientsFull, ScriptTooLong, Refused}
 
 -- a fault of the grammar; the console prints the same of it
 abbrev pub parse_fault_name : ParseFault → List ℕ

@@ -4,9 +4,9 @@ use Rattle.std.proofs.lemmas.List.{length-map}
 use Rattle.stm_lines.specs.LineClass.{LineClass, line_class}
 use Rattle.stm_lines.specs.LineReading.{classes_from, IsNextLine, IsNoLine}
 use Rattle.stm_lines.specs.Lines.{lines_of}
-use Rattle.stm_storm.specs.declared.script_fault.ScriptFault.{ScriptFault}
-use Rattle.stm_storm.specs.ScriptReading.{after_class_at, after_classes, rest_script, IsReadTo}
-use Rattle.stm_storm.specs.StormScript.{PartialScript, nothing_read, after_line, after_lines, script_result, storm_script}
+use Rattle.stm_script.specs.declared.script_fault.ScriptFault.{ScriptFault}
+use Rattle.stm_script.specs.ScriptReading.{after_class_at, after_classes, rest_script, IsReadTo}
+use Rattle.stm_script.specs.StormScript.{PartialScript, nothing_read, after_line, after_lines, script_result, storm_script}
 
 -- of a line no more counts than how it is judged
 by_classes : (r : Result PartialScript ScriptFault) (n : ℕ) (lines : List (List ℕ)) → after_lines r n lines ≡ after_classes r n (map line_class lines)

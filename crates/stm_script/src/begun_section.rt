@@ -2,10 +2,10 @@
 
 ghost use Rattle.std.specs.Prelude.{◌≡◌, ◌++◌, ◌∷◌, [], ◌+◌, length, OnOk};
 
+use crate::section::{Section, Task};
 use std::alloc::Global;
 use std::marker::Model;
 use stm_check::SharedBlock;
-use stm_pool::{Section, Task};
 use stm_terms::NoMemory;
 
 /// The tasks so far, and how many of them are submissions.
@@ -19,7 +19,7 @@ impl Model for BegunSection {
     ghost use Rattle.std.specs.Prelude.{◌≤◌, length};
     ghost use Rattle.std.specs.Coded.{codes};
     ghost use Rattle.stm_terms.specs.TreeEncoding.{act_code};
-    ghost use Rattle.stm_storm.specs.StormScript.{Begun};
+    ghost use Rattle.stm_script.specs.StormScript.{Begun};
 
     ghost Value = { Begun };
 

@@ -3,7 +3,7 @@ use Rattle.std.proofs.lemmas.List.{take_all}
 use Rattle.std.proofs.lemmas.Result.{on_ok_weaker}
 use Rattle.stm_store.specs.Naming.{Named, named_in_table}
 use Rattle.stm_store.proofs.TableNames.{entry_at, fresh_name, held_kind, numbers_below, names_next}
-use Rattle.stm_storm.proofs.variables.add_last.Goals as goal
+use Rattle.stm_script.proofs.variables.add_last.Goals as goal
 
 pub add-requires-clause-fresh : goal.add-requires-clause-fresh
 add-requires-clause-fresh c =

@@ -1,7 +1,7 @@
 //! The words of a storm's script.
 
 ghost use Rattle.std.specs.Prelude.{◌≡◌};
-ghost use Rattle.stm_storm.specs.StormScript.{storm_word_named};
+ghost use Rattle.stm_script.specs.StormScript.{storm_word_named};
 
 /// What a line of a storm's script begins with (docs/STORM.md).
 #[derive(Clone, Copy, PartialEq, Eq, Debug)]

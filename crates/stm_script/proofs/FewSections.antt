@@ -6,20 +6,20 @@ use Rattle.stm_check.specs.TypedBlock.{Block}
 use Rattle.stm_parse.specs.ExpectationFunction.{parsed_expectation}
 use Rattle.stm_store.specs.Naming.{named_in_table}
 use Rattle.stm_store.specs.Tables.{Declared}
-use Rattle.stm_pool.specs.declared.section.Task.{Task}
-use Rattle.stm_pool.specs.declared.section.Task.TheVariants as task
-use Rattle.stm_pool.specs.Limits.{max_sections}
+use Rattle.stm_script.specs.declared.section.Task.{Task}
+use Rattle.stm_script.specs.declared.section.Task.TheVariants as task
+use Rattle.stm_script.specs.Limits.{max_sections}
 use Rattle.stm_lines.specs.NumberArgument.{number_argument}
 use Rattle.stm_blocks.specs.CompiledBlock.{compiled_block}
 use Rattle.stm_blocks.specs.DeclaredVariable.{variable_of}
 use Rattle.stm_blocks.specs.declared.refusal.Refusal.{Refusal}
-use Rattle.stm_storm.specs.declared.storm_word.StormWord.{StormWord}
-use Rattle.stm_storm.specs.declared.storm_word.StormWord.TheVariants.{Tvar, Client, Submit, Finish, Cancel, Expect}
+use Rattle.stm_script.specs.declared.storm_word.StormWord.{StormWord}
+use Rattle.stm_script.specs.declared.storm_word.StormWord.TheVariants.{Tvar, Client, Submit, Finish, Cancel, Expect}
 use Rattle.stm_lines.specs.LineClass.{LineClass, TooLong, Silent, NotAscii, Words}
-use Rattle.stm_storm.specs.declared.script_fault.Reason.{Reason}
-use Rattle.stm_storm.specs.declared.script_fault.Reason.TheVariants as reason
-use Rattle.stm_storm.specs.ScriptReading.{HasFewSections, after_class_at}
-use Rattle.stm_storm.specs.StormScript.{PartialScript, Begun, sections_so_far, faulty_line, most_lines, numbered_result, with_section, declared_more, after_client, with_task, with_block, submission_of, with_submission, with_expectation, expected_task, after_task, before_sections, after_word, after_words, after_class, storm_word_named}
+use Rattle.stm_script.specs.declared.script_fault.Reason.{Reason}
+use Rattle.stm_script.specs.declared.script_fault.Reason.TheVariants as reason
+use Rattle.stm_script.specs.ScriptReading.{HasFewSections, after_class_at}
+use Rattle.stm_script.specs.StormScript.{PartialScript, Begun, sections_so_far, faulty_line, most_lines, numbered_result, with_section, declared_more, after_client, with_task, with_block, submission_of, with_submission, with_expectation, expected_task, after_task, before_sections, after_word, after_words, after_class, storm_word_named}
 
 -- a step that leads to a script leads to one with few sections
 abbrev pub Few : Result PartialScript Reason → Type 0

@@ -9,10 +9,11 @@ ghost use Rattle.stm_blocks.specs.CompiledBlock.{compiled_block};
 ghost use Rattle.stm_blocks.specs.DeclaredVariable.{initial as initial_of};
 ghost use Rattle.stm_blocks.specs.OutOfMemory.{IsOutOfMemory};
 ghost use Rattle.stm_store.specs.Naming.{named_in_table};
-ghost use Rattle.stm_storm.specs.ScriptReading.{or_refused};
-ghost use Rattle.stm_storm.specs.StormScript.{submission_of, expected_at, expected_task};
+ghost use Rattle.stm_script.specs.ScriptReading.{or_refused};
+ghost use Rattle.stm_script.specs.StormScript.{submission_of, expected_at, expected_task};
 
 use crate::script_fault::Reason;
+use crate::section::Task;
 use crate::variables::Variables;
 use std::alloc::Global;
 use stm_blocks::Refusal;
@@ -21,7 +22,6 @@ use stm_blocks::declaring::initial;
 use stm_check::{SharedBlock, TypeFault};
 use stm_lines::arguments::number_of;
 use stm_parse::{Init, ParseFault, parse_expectation};
-use stm_pool::Task;
 use stm_store::{DeclareError, Table};
 
 /// Why a line of a script isn't taken.

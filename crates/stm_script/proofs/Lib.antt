@@ -1,0 +1,2 @@
+pub mod FewSections
+pub mod ReadScript
