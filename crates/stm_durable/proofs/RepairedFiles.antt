@@ -1,5 +1,5 @@
 -- A file that was repaired has what was loaded of it.
-use Rattle.std.proofs.Common.{◌≡◌, inl, inr, ⊎_elim, ℕ, List, Bool, true, false, Option, Some, None, is_some, IfSome, [], ◌∷◌, refl, sym, ap, ap₂, subst, ◌∙◌}
+use Rattle.std.proofs.Common.{◌≡◌, inl, inr, ⊎_elim, ℕ, List, Bool, true, false, Option, Some, None, is_some, IfSome, [], ◌∷◌, refl, sym, ap, ap₂, ◌∙◌}
 use Rattle.std.specs.Prelude.{◌&&◌, ◌||◌, if◌then◌else◌}
 use Rattle.std.proofs.lemmas.List.{append-nil}
 use Rattle.stm_store.specs.Naming.{is_gapless}
@@ -14,11 +14,11 @@ use Rattle.stm_event_lines.specs.Fits.{WhatFitsFormat}
 use Rattle.stm_event_lines.specs.Lines.{declaring_format, latest_format}
 use Rattle.stm_history.specs.Judgement.{AreEvents}
 use Rattle.stm_history.specs.Loading.{HasText, loaded_start}
-use Rattle.stm_history_text.specs.Starts.{IsLatest, Start, are_plain_blocks, declares, format_for, format_of_start, is_declaration, is_labelling, labels_blocks}
+use Rattle.stm_history_text.specs.Starts.{IsLatest, are_plain_blocks, declares, format_for, format_of_start, is_declaration, is_labelling, labels_blocks}
 use Rattle.stm_history.specs.declared.files.loading.Loaded.{Loaded}
 use Rattle.stm_journal.specs.Disk.{Disk}
 use Rattle.stm_journal.specs.Journal.{AtRest}
-use Rattle.stm_durable.specs.Durable.{LoadedKept, HistoryKept, LoadsFront, file_text, IsFormatFor, IsFormatOf}
+use Rattle.stm_durable.specs.Durable.{LoadedKept, LoadsFront, file_text, IsFormatFor, IsFormatOf}
 use Rattle.stm_durable.specs.declared.recording.HistoryFile.{HistoryFile}
 
 pub has_loaded : {D : Type 0} (disk : Disk D) (new : HistoryFile D) (front : List ℕ) (loaded : Option Loaded) → new.begun ≡ is_some loaded → ((h : Loaded) → loaded ≡ Some h → new.format ≡ h.format) → LoadsFront front loaded
@@ -34,29 +34,6 @@ has_loaded disk new front (Some h) b f l is rest = (
     format_is = λ e. f h refl;
   },
 )
-
--- a file of which nothing was loaded has no history yet, wherever it begins
-pub none_yet : {D : Type 0} (disk : Disk D) (f : HistoryFile D) (loaded : Option Loaded) → loaded ≡ None → LoadedKept disk f loaded → (start : Start) → HistoryKept disk f start []
-none_yet disk f loaded none h start =
-    let k : LoadedKept disk f None = subst (LoadedKept disk f) none h in
-    k.1 start
-
--- a file that was opened has some history
-pub some_history : {D : Type 0} (disk : Disk D) (f : HistoryFile D) (loaded : Option Loaded) → LoadedKept disk f loaded
-    → (start : Start) × (history : List Event) × HistoryKept disk f start history
-some_history disk f None h =
-    let start : Start = record { format = 0; table = []; checkpoint = None } in
-    (start, [], h.1 start)
-some_history disk f (Some l) h = (loaded_start l, l.events.items, h.1)
-
--- a history in the format of the file
-pub in_its_format : {D : Type 0} (disk : Disk D) (f : HistoryFile D) (format : ℕ) (table : List Declared) (o : Option CheckpointView) (history : List Event) → f.format ≡ format
-    → HistoryKept disk f (record { format = format; table = table; checkpoint = o }) history → HistoryKept disk f (record { format = f.format; table = table; checkpoint = o }) history
-in_its_format disk f format table o history is k = subst (λ (n : ℕ). HistoryKept disk f (record { format = n; table = table; checkpoint = o }) history) (sym is) k
-
--- what was loaded has a text
-pub text_of : (loaded : Option Loaded) (h : Loaded) → loaded ≡ Some h → IfSome loaded (λ h. HasText (loaded_start h) h.events.items) → HasText (loaded_start h) h.events.items
-text_of loaded h some text = subst (λ (o : Option Loaded). IfSome o (λ h. HasText (loaded_start h) h.events.items)) some text
 
 -- ---- formats
 -- what may stand in another format than that of late declarations and labels declares no variable, and labels no block

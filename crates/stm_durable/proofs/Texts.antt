@@ -14,9 +14,8 @@ use Rattle.stm_machine.specs.declared.checkpoint.CheckpointBlock.{CheckpointBloc
 use Rattle.stm_machine.specs.Checkpoints.{CheckpointView}
 use Rattle.stm_event_lines.specs.Fits.{Is32Bit, IsOneLine, BeginsWithBrace}
 use Rattle.stm_history_text.specs.HistoryText.{variable_lines, event_lines, head_text, cell_lines, cell_lines_from, cells_text, block_line, block_lines, checkpoint_text, history_text, start_text, text_before}
-use Rattle.stm_history.specs.Judgement.{AreVariables, AreVariablesFrom, AreEvents, FitCells, FitBlocks, CheckpointFits, FitsBefore, FormatFits, IsBefore}
-use Rattle.stm_history.specs.Loading.{HasText}
-use Rattle.stm_history_text.specs.Starts.{Start, delivery_of_block, first_state}
+use Rattle.stm_history.specs.Judgement.{AreVariables, AreVariablesFrom, AreEvents, FitCells, FitBlocks, CheckpointFits, FitsBefore, FormatFits}
+use Rattle.stm_history_text.specs.Starts.{Start, delivery_of_block}
 use Rattle.stm_event_lines.specs.Lines.{IsFormat, event_line, header_line, variable_line}
 use Rattle.stm_event_lines.specs.CheckpointLines.{FitsCell, FitsName, IsCheckpointFormat, cell_line, checkpoint_header_line}
 use Rattle.stm_history.proofs.Braces.{event_brace, header_brace, variable_brace, checkpoints_begin_with_braces}
@@ -142,24 +141,6 @@ batch_no_shorter false start events = omega (arith, length-append (start_text st
 pub batch_short : (begun : Bool) (start : Start) (s : Slow) (events : List Event) → FitLines start s events → length (batch_text begun start events) ≤ most_batch
     → AreEvents start.format s events
 batch_short begun start s events fit small = events_short start.format s events fit.fit (omega (arith, small, batch_no_shorter begun start events))
-
-events_fit : (format : ℕ) (s : Slow) (events : List Event) → AreEvents format s events → AreFit format s events
-events_fit format s [] are = tt
-events_fit format s (e ∷ es) are = (are.0, are.1, events_fit format (after s e.what) es are.3)
-
-fits_before : (format : ℕ) (table : List Declared) (o : Option CheckpointView) → IsBefore format table o → FormatFits format o × FitsBefore table o
-fits_before format table None is = (is.0, is.2)
-fits_before format table (Some c) is = let r = is.1 in ((r.is_format, r.gapless, r.plain), r.fits)
-
--- what has a text can be in lines
-pub fits_again : (start : Start) (events : List Event) → HasText start events → FitLines start (first_state start) events
-fits_again start events text =
-    let is = text.1 in
-    let before = fits_before start.format start.table start.checkpoint is.start in
-    record { format_fits = before.0; start_fits = before.1; fit = events_fit start.format (first_state start) events is.events }
-
-pub fits_none : (start : Start) (s : Slow) (events : List Event) → FitLines start s events → FitLines start s []
-fits_none start s events fit = record { format_fits = fit.format_fits; start_fits = fit.start_fits; fit = tt }
 
 -- ---- how a history begins: with `{"format":`
 abbrev pub BeginsHistory : List ℕ → Type 0

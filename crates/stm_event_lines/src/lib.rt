@@ -15,8 +15,6 @@ pub mod loose;
 mod parts;
 pub mod read;
 mod send;
-#[cfg(test)]
-mod tests;
 pub mod variable;
 mod verdicts;
 pub mod write;

@@ -1,13 +1,12 @@
-//! What the lines of a checkpoint look like, which are read, and which are refused. No program makes these calls by a script, and no
-//! contract says that they succeed.
+//! What the lines of a checkpoint look like, which are read, and which are refused.
 
-use crate::checkpoint::{
+use std::alloc::Global;
+use std::test::Fail;
+use stm_event_lines::LineError;
+use stm_event_lines::checkpoint::{
     DeliveredParts, WaitingLine, cell_text, checkpoint_header_text, read_cell,
     read_checkpoint_header, read_waiting, waiting_line_text,
 };
-use crate::read::LineError;
-use std::alloc::Global;
-use std::test::Fail;
 use stm_events::kept_cause::KeptCause;
 use stm_events::shared_verdict::SharedVerdict;
 use stm_store::{Cell, Names, Table};

@@ -1,6 +1,6 @@
 use Rattle.std.proofs.Common.{◌≡◌, Result, Ok, Err, IfOk, refl, subst}
 use Rattle.std.specs.Prelude.{MatchResult, IsErrAnd}
-use Rattle.stm_durable_run.proofs.tests.run_over.Goals as goal
+use Rattle.test_files.proofs.journaled_run.run_over.Goals as goal
 
 -- what is `Ok` after `map_err` was `Ok` before
 mapped_ok : {T E F : Type 0} (r : Result T E) (s : Result T F) (x : T) (P : T → Type 0) (Q : E → F → Type 0) → MatchResult r (λ y. s ≡ Ok y) (λ e. IsErrAnd s (Q e)) → s ≡ Ok x → IfOk r P → P x

@@ -5,9 +5,8 @@ use Rattle.stm_machine.specs.Checkpoints.{CheckpointView}
 use Rattle.stm_history.specs.Loading.{loaded_start}
 use Rattle.stm_history_text.specs.Starts.{first_state}
 use Rattle.stm_durable.specs.Durable.{FitLines}
-use Rattle.stm_durable.proofs.RepairedFiles.{in_its_format, some_history, text_of}
-use Rattle.stm_durable.proofs.Texts.{fits_again, fits_none}
-use Rattle.stm_durable.proofs.tests.begun_again.Goals as goal
+use Rattle.test_files.proofs.OpenedFiles.{fits_again, fits_none, in_its_format, some_history, text_of}
+use Rattle.test_files.proofs.history_file.begun_again.Goals as goal
 
 pub begin_anew-requires-clause-kept : goal.begin_anew-requires-clause-kept
 begin_anew-requires-clause-kept c honest = some_history _ _ _ (c.in-Ok.ensures.kept (λ h. refl) honest)

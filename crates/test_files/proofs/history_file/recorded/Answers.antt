@@ -4,9 +4,8 @@ use Rattle.stm_machine.specs.Checkpoints.{CheckpointView}
 use Rattle.stm_history.specs.Loading.{loaded_start}
 use Rattle.stm_history_text.specs.Starts.{first_state}
 use Rattle.stm_durable.specs.Durable.{FitLines}
-use Rattle.stm_durable.proofs.RepairedFiles.{none_yet, text_of}
-use Rattle.stm_durable.proofs.Texts.{fits_again}
-use Rattle.stm_durable.proofs.tests.recorded.Goals as goal
+use Rattle.test_files.proofs.OpenedFiles.{fits_again, none_yet, text_of}
+use Rattle.test_files.proofs.history_file.recorded.Goals as goal
 
 pub record-requires-clause-kept : goal.record-requires-clause-kept
 record-requires-clause-kept c honest = ([], none_yet _ _ _ c.in-Some-None.is-1 (c.in-Ok.ensures.kept (λ h. refl) honest) _)

@@ -1,11 +1,8 @@
-//! A device that runs out of space, for tests.
+//! A device that runs out of space.
 
 ghost use Rattle.stm_journal.specs.Disk.{claims_nothing, lawful_nothing};
 
-use crate::device::Device;
-use crate::error::JournalError;
-use crate::memory::Memory;
-use crate::replace::{Replace, ReplaceError};
+use stm_journal::{Device, JournalError, Memory, Replace, ReplaceError};
 
 /// A device in memory with room for a number of bytes. A write that finds no room leaves none of its bytes.
 #[derive(Drop)]
