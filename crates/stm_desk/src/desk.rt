@@ -63,7 +63,7 @@ impl Desk {
     pub const MAX_WAITING: usize = Machine::MAX_WAITING;
 
     /// How many events a history may have.
-    pub const MAX_EVENTS: u32 = 1_048_576;
+    pub const MAX_EVENTS: u32 = Event::MAX_EVENTS;
 
     /// A desk with the variables of a table, on which no block waits. It takes this many events.
     pub fn open(alloc: Global, table: &Table, max_events: u32) -> Result<Desk, NoMemory>
