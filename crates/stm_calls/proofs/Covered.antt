@@ -4,7 +4,7 @@ use Rattle.stm_terms.specs.declared.kinds.Ty.{Ty}
 use Rattle.stm_terms.specs.declared.values.Value.{Value}
 use Rattle.stm_store.specs.Cells.{Covers}
 use Rattle.stm_eval.specs.declared.job.Job.{Job}
-use Rattle.stm_machine.specs.JobsHandedOut.{AreJobsCovered}
+use Rattle.stm_eval.specs.CoveredJobs.{AreJobsCovered}
 
 pub covered_push : (cells : List (Ty × Value)) (js : List Job) (j : Job) → AreJobsCovered cells js → Covers cells j.block.uses → AreJobsCovered cells (js ++ j ∷ [])
 covered_push cells [] j h one = (one, tt)

@@ -3,7 +3,7 @@
 ghost use Rattle.std.specs.Prelude.{◌<◌, IfOk, OnOk};
 ghost use Rattle.stm_store.specs.Cells.{Covers};
 ghost use Rattle.stm_events.specs.SlowDesk.{max_clients};
-ghost use Rattle.stm_machine.specs.JobsHandedOut.{AreJobsCovered};
+ghost use Rattle.stm_eval.specs.CoveredJobs.{AreJobsCovered};
 
 use crate::words::say;
 use std::alloc::{AllocError, Global};

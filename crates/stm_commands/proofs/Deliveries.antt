@@ -16,7 +16,8 @@ use Rattle.stm_events.specs.declared.errors.DeliverError.{DeliverError}
 use Rattle.stm_events.specs.declared.event.What.TheVariants.{Installed}
 use Rattle.stm_queue.specs.Queue.{Entry}
 use Rattle.stm_store.specs.Cells.{plains}
-use Rattle.stm_machine.specs.JobsHandedOut.{AreJobs, AreJobsCovered, sent}
+use Rattle.stm_eval.specs.CoveredJobs.{AreJobsCovered}
+use Rattle.stm_machine.specs.JobsHandedOut.{AreJobs, sent}
 use Rattle.stm_events.specs.declared.errors.DeliverError.TheVariants.{Gone, NoMemory}
 use Rattle.stm_events.specs.Refusals.{install_first, DeliveryRefusedAt}
 use Rattle.stm_events.specs.SlowDesk.{Waiter, find_waiter}

@@ -9,7 +9,7 @@ use Rattle.stm_eval.specs.declared.job.Job.{Job}
 use Rattle.stm_eval.specs.declared.message.Evaluated.{Evaluated}
 use Rattle.stm_eval.specs.EvaluatedFields.{message_ticket}
 use Rattle.stm_events.specs.declared.errors.DeliverError.{DeliverError}
-use Rattle.stm_machine.specs.JobsHandedOut.{AreJobsCovered}
+use Rattle.stm_eval.specs.CoveredJobs.{AreJobsCovered}
 use Rattle.stm_pool.specs.Answers.{IsMessageOf, AnswersJob}
 use Rattle.stm_desk.specs.Refusals.{requeued_if_overtaken}
 use Rattle.stm_desk.specs.DeskView.{DeskView}

@@ -15,7 +15,8 @@ use Rattle.stm_events.specs.declared.errors.SubmitError.{SubmitError}
 use Rattle.stm_events.specs.declared.event.Event.{Event}
 use Rattle.stm_events.specs.declared.event.What.{What}
 use Rattle.stm_events.specs.declared.event.What.TheVariants.{Submitted, Cancelled, Declared as DeclaredLate, Labelled}
-use Rattle.stm_machine.specs.JobsHandedOut.{block_at, AreJobs, AreJobsCovered}
+use Rattle.stm_eval.specs.CoveredJobs.{AreJobsCovered}
+use Rattle.stm_machine.specs.JobsHandedOut.{block_at, AreJobs}
 use Rattle.stm_machine.specs.Machine.{event}
 use Rattle.stm_machine.specs.Checkpoints.{MayStart}
 use Rattle.stm_events.specs.SlowDesk.{Slow, Waiter, after, find_waiter}

@@ -5,7 +5,7 @@ ghost use Rattle.stm_terms.specs.declared.kinds.Ty.{Ty};
 ghost use Rattle.stm_terms.specs.declared.values.Value.{Value};
 ghost use Rattle.stm_eval.specs.declared.job.Job.{Job};
 ghost use Rattle.stm_pool.specs.Answers.{IsMessageOf, AnswersJob};
-ghost use Rattle.stm_machine.specs.JobsHandedOut.{AreJobsCovered};
+ghost use Rattle.stm_eval.specs.CoveredJobs.{AreJobsCovered};
 ghost use Rattle.stm_events.specs.SlowDesk.{max_waiting};
 ghost use Rattle.stm_events.specs.States.{IsLegalFrom};
 ghost use Rattle.stm_machine.specs.Checkpoints.{MayStart};

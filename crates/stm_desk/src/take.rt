@@ -3,7 +3,8 @@
 ghost use Rattle.std.specs.Prelude.{◌≡◌, ◌≤◌, false, map, take, length, vec_len, IfOk, OnErr, is_some};
 ghost use Rattle.stm_store.specs.Cells.{plains};
 ghost use Rattle.stm_queue.specs.Queue.{queued, is_out, marked, first_queued};
-ghost use Rattle.stm_machine.specs.JobsHandedOut.{sent, AreJobs, AreJobsCovered};
+ghost use Rattle.stm_eval.specs.CoveredJobs.{AreJobsCovered};
+ghost use Rattle.stm_machine.specs.JobsHandedOut.{sent, AreJobs};
 ghost use Rattle.stm_desk.specs.DeskView.{state_of};
 
 use crate::desk::Desk;

@@ -19,7 +19,8 @@ use Rattle.stm_waiting.specs.Entries.{kept_at}
 use Rattle.stm_machine.specs.Entries.{AreDue}
 use Rattle.stm_machine.specs.Machine.{Parts, IsAt}
 use Rattle.stm_machine.specs.QueueAndIndex.{due_of}
-use Rattle.stm_machine.specs.JobsHandedOut.{sent, block_at, AreJobs, IsKeptJob, AreKept, AreJobsCovered, IsPresent}
+use Rattle.stm_eval.specs.CoveredJobs.{AreJobsCovered}
+use Rattle.stm_machine.specs.JobsHandedOut.{sent, block_at, AreJobs, IsKeptJob, AreKept, IsPresent}
 use Rattle.stm_events.specs.Refusals.{differing}
 use Rattle.stm_machine.proofs.Agreeing.{reads_differ_nowhere}
 use Rattle.stm_machine.proofs.States.{covered_at}

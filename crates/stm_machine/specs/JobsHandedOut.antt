@@ -1,9 +1,6 @@
 -- What is handed out to evaluators, and what comes back.
 use Rattle.std.specs.Prelude.{◌≡◌, ℕ, zero, suc, List, [], ◌∷◌, Option, Some, None, option_map}
-use Rattle.stm_terms.specs.declared.kinds.Ty.{Ty}
-use Rattle.stm_terms.specs.declared.values.Value.{Value}
 use Rattle.stm_terms.specs.ReadSet.{reads_of}
-use Rattle.stm_store.specs.Cells.{Covers}
 use Rattle.stm_check.specs.TypedBlock.{Block}
 use Rattle.stm_eval.specs.declared.job.Job.{Job}
 use Rattle.stm_eval.specs.declared.message.Evaluated.{Evaluated}
@@ -36,11 +33,6 @@ IsKeptJob es j = option_map (λ w. w.block) (kept_at j.ticket es) ≡ Some j.blo
 abbrev pub AreKept : List (ℕ × Waiting) → List Job → Type 0
 AreKept es [] = Unit {0}
 AreKept es (j ∷ js) = IsKeptJob es j × AreKept es js
-
--- the store has the variables that each block names
-abbrev pub AreJobsCovered : List (Ty × Value) → List Job → Type 0
-AreJobsCovered cells [] = Unit {0}
-AreJobsCovered cells (j ∷ js) = Covers cells j.block.uses × AreJobsCovered cells js
 
 -- the message is what the block that waits under the ticket does on the present store, so nothing of it was overtaken
 pub record IsPresent (s : Slow) (t : ℕ) (m : Evaluated) : Type 0 where

@@ -7,7 +7,8 @@ ghost use Rattle.stm_events.specs.SlowDesk.{Slow};
 ghost use Rattle.stm_waiting.specs.Entries.{kept_at};
 ghost use Rattle.stm_machine.specs.Machine.{IsAt, Stays};
 ghost use Rattle.stm_events.specs.Refusals.{pending_left};
-ghost use Rattle.stm_machine.specs.JobsHandedOut.{sent, AreJobs, AreJobsCovered, AreKept, IsKeptJob};
+ghost use Rattle.stm_eval.specs.CoveredJobs.{AreJobsCovered};
+ghost use Rattle.stm_machine.specs.JobsHandedOut.{sent, AreJobs, AreKept, IsKeptJob};
 
 use crate::machine::Machine;
 use std::alloc::Global;

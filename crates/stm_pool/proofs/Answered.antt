@@ -9,7 +9,7 @@ use Rattle.stm_terms.specs.declared.values.Value.{Value}
 use Rattle.stm_store.specs.Cells.{Covers}
 use Rattle.stm_eval.specs.declared.job.Job.{Job}
 use Rattle.stm_eval.specs.declared.message.Evaluated.{Evaluated}
-use Rattle.stm_machine.specs.JobsHandedOut.{AreJobsCovered}
+use Rattle.stm_eval.specs.CoveredJobs.{AreJobsCovered}
 use Rattle.stm_pool.specs.declared.slot.Slot.{Slot}
 use Rattle.stm_pool.specs.Answers.{AnswersJob}
 use Rattle.stm_pool.specs.Slots.{IsWorked, IsDone, IsReady, IsLeft, AreDone, todo, slot_of}

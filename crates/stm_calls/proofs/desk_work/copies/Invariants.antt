@@ -1,4 +1,4 @@
-use Rattle.stm_machine.specs.JobsHandedOut.{AreJobsCovered}
+use Rattle.stm_eval.specs.CoveredJobs.{AreJobsCovered}
 use Rattle.stm_calls.proofs.desk_work.copies.Given as goal
 
 abbrev pub invariant-loop-job : goal.invariant-loop-job
