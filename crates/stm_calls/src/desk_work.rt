@@ -11,7 +11,7 @@ use std::fmt::Write;
 use std::thread::Threads;
 use stm_desk::{DeliverError, Desk, Evaluation};
 use stm_eval::{Evaluated, Job, evaluate};
-use stm_pool::{Answer, MAX_WORKERS, evaluate_all};
+use stm_jobs::{Answer, MAX_WORKERS, evaluate_all};
 use stm_store::Frozen;
 
 /// The jobs of the last call that took some, the copy of the store beside them, and the messages made of them.

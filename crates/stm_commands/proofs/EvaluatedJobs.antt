@@ -10,7 +10,7 @@ use Rattle.stm_eval.specs.declared.message.Evaluated.{Evaluated}
 use Rattle.stm_eval.specs.EvaluatedFields.{message_ticket}
 use Rattle.stm_events.specs.declared.errors.DeliverError.{DeliverError}
 use Rattle.stm_eval.specs.CoveredJobs.{AreJobsCovered}
-use Rattle.stm_pool.specs.Answers.{IsMessageOf, AnswersJob}
+use Rattle.stm_jobs.specs.Answers.{IsMessageOf, AnswersJob}
 use Rattle.stm_desk.specs.Refusals.{requeued_if_overtaken}
 use Rattle.stm_desk.specs.DeskView.{DeskView}
 use Rattle.stm_commands.specs.Evaluation.{DeliveredSoFar, delivered_by, delivered_next, delivered_all}

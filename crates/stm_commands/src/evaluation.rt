@@ -4,7 +4,7 @@ ghost use Rattle.std.specs.Prelude.{◌≡◌, ◌≤◌, ◌<◌, ◌+◌, List
 ghost use Rattle.stm_terms.specs.declared.kinds.Ty.{Ty};
 ghost use Rattle.stm_terms.specs.declared.values.Value.{Value};
 ghost use Rattle.stm_eval.specs.declared.job.Job.{Job};
-ghost use Rattle.stm_pool.specs.Answers.{IsMessageOf, AnswersJob};
+ghost use Rattle.stm_jobs.specs.Answers.{IsMessageOf, AnswersJob};
 ghost use Rattle.stm_eval.specs.CoveredJobs.{AreJobsCovered};
 ghost use Rattle.stm_events.specs.SlowDesk.{max_waiting};
 ghost use Rattle.stm_events.specs.States.{IsLegalFrom};
@@ -21,7 +21,7 @@ use std::mem;
 use std::thread::Threads;
 use stm_desk::{DeliverError, Desk};
 use stm_eval::{Evaluated, Job};
-use stm_pool::{Answer, evaluate_all};
+use stm_jobs::{Answer, evaluate_all};
 use stm_store::Frozen;
 use stm_terms::NoMemory;
 

@@ -8,13 +8,7 @@ use Rattle.std.proofs.sync.ledger.Share.TheSendSync.{the_send as share_send}
 use Rattle.std.proofs.sync.ledger.Book.TheSendSync.{the_send as book_send}
 use Rattle.std.proofs.Crossing.{crosses, Vec-send}
 use Rattle.std.proofs.MapsCrossing.{crosses as maps_crosses}
-use Rattle.stm_terms.proofs.expr.Expr.TheLaws.TheKnot.{crosses as expr_crosses}
-use Rattle.stm_terms.proofs.action.Action.TheLaws.TheKnot.{crosses as action_crosses}
-use Rattle.stm_check.specs.contracts.typed.SharedBlock as shared_block
-use Rattle.stm_check.specs.contracts.typed.Typed as typed
-use Rattle.stm_eval.specs.contracts.job.Job as job
-use Rattle.stm_eval.specs.contracts.message.Evaluated as message
-use Rattle.stm_pool.specs.contracts.slot.Slot as slot
+use Rattle.stm_jobs.proofs.Crosses.{block_send}
 use Rattle.stm_terms.specs.contracts.verdicts.Verdict as verdict
 use Rattle.stm_events.specs.contracts.kept_cause.KeptCause as kept_cause
 use Rattle.stm_events.specs.contracts.label_table.LabelTable as label_table
@@ -38,25 +32,6 @@ use Rattle.stm_pool.specs.contracts.shared.SharedDesk as shared
 use Rattle.stm_script.specs.contracts.section.Section as section
 use Rattle.stm_script.specs.contracts.section.Task as task
 use Rattle.stm_pool.specs.contracts.threads.Errand as errand
-
--- ---- jobs and messages
-pub typed_send : IsSend typed.the_row
-typed_send = search (sendable, crosses, maps_crosses, action_crosses, expr_crosses) depth 30 fits 20000
-
-pub typed_sync : IsSync typed.the_row
-typed_sync = search (sendable, crosses, maps_crosses, action_crosses, expr_crosses) depth 30 fits 20000
-
-pub block_send : IsSend shared_block.the_row
-block_send = search (sendable, crosses, typed_send, typed_sync) depth 30
-
-pub job_send : IsSend job.the_row
-job_send = search (sendable, block_send) depth 30
-
-pub message_send : IsSend message.the_row
-message_send = search (sendable, crosses, maps_crosses, action_crosses, expr_crosses) depth 40 fits 100000
-
-pub slot_send : IsSend slot.the_row
-slot_send = search (sendable, job_send, message_send) depth 30 fits 20000
 
 -- ---- the desk under its lock
 pub verdict_send : IsSend verdict.the_row

@@ -1,4 +1,3 @@
-mod Answered
 mod Closes
 mod Counted
 pub mod Crosses

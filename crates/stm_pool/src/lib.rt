@@ -1,6 +1,6 @@
-//! Running threads: jobs evaluated by many of them, and a desk that they share.
+//! Running threads: a desk that many of them share.
 //!
-//! `evaluate_all` answers what one thread would, by as many threads as it is given.
+//! `stm_jobs` evaluates many jobs by threads, and is named here, too: `evaluate_all`, `all` and `slot`.
 //!
 //! `Guarded` is the desk under its lock, and `Pass` what each client carries: its own accepted
 //! events, and its share of the count of all. A call on `Guarded` is lent both, so its contract
@@ -11,17 +11,11 @@
 //! A storm (`run_storm`) runs clients and workers in threads of their own over one such desk, and
 //! closes it.
 //!
-//! What a reader has to believe is what these answers say. `specs/Answers` says what is answered of
-//! a job, `specs/Own` what a pass knows of its client's events and when a history has them,
-//! `specs/Shown` what a view shows a client, `specs/Found` what store comes with a job that a
-//! worker finds, `specs/Worked` what a worker adds to its pass, and `specs/Storms` what a storm's
-//! counts say of the history. `specs/Limits` says how many workers
-//! there may be.
+//! What a reader has to believe is what these answers say. `specs/Own` says what a pass knows of its
+//! client's events and when a history has them, `specs/Shown` what a view shows a client,
+//! `specs/Found` what store comes with a job that a worker finds, `specs/Worked` what a worker adds
+//! to its pass, and `specs/Storms` what a storm's counts say of the history.
 #![tactic(auto)]
-
-// Many jobs at once.
-pub mod all;
-pub mod slot;
 
 // The desk under its lock.
 pub mod errors;
@@ -40,13 +34,13 @@ mod counting;
 pub mod storm;
 mod threads;
 
-pub use all::{Answer, MAX_WORKERS, evaluate_all};
 pub use calls::Next;
 pub use close::Report;
 pub use errors::{CloseError, ViewError};
 pub use guarded::{Guarded, View};
 pub use pass::Pass;
 pub use shared::SharedDesk;
+pub use stm_jobs::{Answer, MAX_WORKERS, all, evaluate_all, slot};
 pub use stm_script::{Section, Task, section};
 pub use storm::{Counts, MAX_SECTIONS, StormEnd, run_storm};
 pub use worker::{Gate, WorkEnd, work};

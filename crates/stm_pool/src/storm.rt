@@ -4,7 +4,7 @@ ghost use Rattle.std.specs.Prelude.{◌≡◌, ◌+◌, ◌<◌, ◌≤◌, leng
 ghost use Rattle.stm_eval.specs.Limits.{max_levels};
 ghost use Rattle.stm_events.specs.SlowDesk.{max_events as most_events};
 ghost use Rattle.stm_pool.specs.Counted.{CountsPasses};
-ghost use Rattle.stm_pool.specs.Limits.{max_workers};
+ghost use Rattle.stm_jobs.specs.Limits.{max_workers};
 ghost use Rattle.stm_script.specs.Limits.{max_sections};
 ghost use Rattle.stm_pool.specs.Storms.{CountsDesk};
 

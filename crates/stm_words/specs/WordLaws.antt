@@ -2,7 +2,7 @@
 use Rattle.std.specs.Prelude.{◌≡◌, ◌≢◌, ◌≤◌, ◌<◌, ◌^◌, ℕ, List, [], ◌∷◌, ◌++◌, codes, decimal, IsTrue}
 use Rattle.stm_eval.specs.Limits.{max_levels}
 use Rattle.stm_events.specs.SlowDesk as slow
-use Rattle.stm_pool.specs.Limits.{max_workers}
+use Rattle.stm_jobs.specs.Limits.{max_workers}
 use Rattle.stm_words.specs.declared.command_line.Request.TheVariants.{Run, RunOn, Storm, Check, CheckWhy}
 use Rattle.stm_journal.specs.declared.sync_mode.SyncMode.{SyncMode}
 use Rattle.stm_journal.specs.declared.sync_mode.SyncMode.TheVariants.{Full, Append, Never}

@@ -6,8 +6,8 @@ use Rattle.stm_terms.specs.declared.values.Value.{Value}
 use Rattle.stm_store.specs.Cells.{Covers}
 use Rattle.stm_eval.specs.declared.job.Job.{Job}
 use Rattle.stm_eval.specs.declared.message.Evaluated.{Evaluated}
-use Rattle.stm_pool.specs.declared.slot.Slot.{Slot}
-use Rattle.stm_pool.specs.Answers.{IsMessageOf}
+use Rattle.stm_jobs.specs.declared.slot.Slot.{Slot}
+use Rattle.stm_jobs.specs.Answers.{IsMessageOf}
 
 -- a slot with a job to do
 abbrev pub todo : Job → Slot

@@ -1,7 +1,7 @@
 use Rattle.std.proofs.Common.{◌≡◌, ◌++◌, map, vec_len, vec_capacity}
 use Rattle.std.specs.Vec.Iter.{into_iter_items}
-use Rattle.stm_pool.specs.Slots.{todo}
-use Rattle.stm_pool.proofs.slot.slots_of.Given as goal
+use Rattle.stm_jobs.specs.Slots.{todo}
+use Rattle.stm_jobs.proofs.slot.slots_of.Given as goal
 
 abbrev pub invariant-loop-job : goal.invariant-loop-job
 invariant-loop-job l =

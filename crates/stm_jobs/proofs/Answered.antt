@@ -10,9 +10,9 @@ use Rattle.stm_store.specs.Cells.{Covers}
 use Rattle.stm_eval.specs.declared.job.Job.{Job}
 use Rattle.stm_eval.specs.declared.message.Evaluated.{Evaluated}
 use Rattle.stm_eval.specs.CoveredJobs.{AreJobsCovered}
-use Rattle.stm_pool.specs.declared.slot.Slot.{Slot}
-use Rattle.stm_pool.specs.Answers.{AnswersJob}
-use Rattle.stm_pool.specs.Slots.{IsWorked, IsDone, IsReady, IsLeft, AreDone, todo, slot_of}
+use Rattle.stm_jobs.specs.declared.slot.Slot.{Slot}
+use Rattle.stm_jobs.specs.Answers.{AnswersJob}
+use Rattle.stm_jobs.specs.Slots.{IsWorked, IsDone, IsReady, IsLeft, AreDone, todo, slot_of}
 
 abbrev pub Answer : Type 0
 Answer = Result Evaluated (Job × AllocError)

@@ -3,9 +3,9 @@
 ghost use Rattle.std.specs.Prelude.{◌≡◌, ℕ, ◌<◌, ◌≤◌, All, vec_len, slice_index_or, IfOk, IfErr};
 ghost use Rattle.stm_eval.specs.Limits.{max_levels};
 ghost use Rattle.stm_eval.specs.CoveredJobs.{AreJobsCovered};
-ghost use Rattle.stm_pool.specs.Answers.{AnswersJob};
-ghost use Rattle.stm_pool.specs.Limits.{max_workers};
-ghost use Rattle.stm_pool.specs.Slots.{IsWorked, IsReady};
+ghost use Rattle.stm_jobs.specs.Answers.{AnswersJob};
+ghost use Rattle.stm_jobs.specs.Limits.{max_workers};
+ghost use Rattle.stm_jobs.specs.Slots.{IsWorked, IsReady};
 
 use crate::slot::{Slot, answers_of, slots_of, work_on};
 use std::alloc::Global;

@@ -1,4 +1,4 @@
--- Limits of what runs in threads.
+-- Limits of what is evaluated by threads.
 use Rattle.std.specs.Prelude.{ℕ}
 
 -- how many threads may evaluate blocks

@@ -1,6 +1,6 @@
 use Rattle.std.proofs.Common.{◌≡◌, ◌<◌, length, vec_len, rules, arith}
-use Rattle.stm_pool.proofs.Answered.{all_done, answered, all_ready}
-use Rattle.stm_pool.proofs.all.evaluate_all.Goals as goal
+use Rattle.stm_jobs.proofs.Answered.{all_done, answered, all_ready}
+use Rattle.stm_jobs.proofs.all.evaluate_all.Goals as goal
 
 pub answers_of-requires-clause-done : goal.answers_of-requires-clause-done
 answers_of-requires-clause-done g c = λ k d h.

@@ -1,0 +1,13 @@
+//! Jobs, evaluated by several threads.
+//!
+//! `evaluate_all` returns what one thread would, by as many threads as it is given. `slot` is the place in which a job is
+//! evaluated, and `all` has threads process the slots of all jobs.
+//!
+//! What a reader has to believe is in `specs/`: `Answers` (what is returned for a job) and `Limits` (how many threads there may
+//! be).
+#![tactic(auto)]
+
+pub mod all;
+pub mod slot;
+
+pub use all::{Answer, MAX_WORKERS, evaluate_all};
