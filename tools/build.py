@@ -1,14 +1,20 @@
 #!/usr/bin/env python3
-"""Proves the crates that a program depends on, and builds it: build.py [--jobs N] PROGRAM.
+"""Proves crates and all below them, and builds what they are: build.py [--jobs N] [--keep] [--measure] CRATE ..
 
-Crates that don't depend on each other are proved side by side, each by `rt lib`, and then the program by `rt run`. Progress and the
-time that is left are printed on standard error. What a check keeps goes into the out/ of its crate, so a later run continues from
-there, and a crate whose library is newer than its texts and those below isn't looked at again before the program.
+Crates that don't depend on each other are proved side by side, those first for which most others wait, each by one process or several.
+Progress and the time that is left are printed on standard error. A crate that is built, and newer than its texts and those below, isn't
+looked at again.
+
+Of a library only its statements are kept, in out/rlib, which is what the crates above need. With --keep the toolchain's own commands,
+`rt lib` and `rt run`, prove each crate, and keep all their work in its out/, several times as much: `rt check` and later builds with
+--keep continue from there.
 """
 
 import argparse
 import contextlib
+import copy
 import fcntl
+import functools
 import os
 import pathlib
 import shutil
@@ -19,50 +25,95 @@ import tempfile
 import threading
 import time
 from concurrent.futures import FIRST_COMPLETED, ThreadPoolExecutor, wait
+from typing import NamedTuple
 
 ROOT = pathlib.Path(__file__).resolve().parent.parent
 TEXTS = "src", "specs", "proofs"
-SECONDS = 0.16  # of processor time that the proof of a line of src/ takes, about (2.5 GHz); and that a crate takes for
-BELOW = 0.006  # each line of the crates below, which are read; a program takes it twice, since they are compiled with it
-GAINS = {1: 1.0, 2: 1.2, 3: 1.4}  # how much faster a chain of crates is proved on N processors; on more than 3:
-MOST_GAIN = 1.5
-MEMORY = 3 << 30  # bytes that one check may take
-RUNNING, STOPPED = set(), threading.Event()  # the commands that run now; set once this program is to end
+FILE = ROOT / "tools" / "seconds.txt"  # the processor seconds that the proof of a crate takes; --measure writes it
+SECONDS = 0.16  # those of a crate that isn't in the file: for each of its lines in src/, and
+BELOW = 0.001  # for each line of the crates below, which are read; a program takes it twice, since they are compiled with it
+BUSY = 0, 1.0, 1.8, 2.4, 2.8  # the processors that N jobs of a check keep busy, and
+COST = 0, 1.0, 1.2, 1.3, 1.4  # how many times the processor seconds of one job they take
+MOST = len(BUSY) - 1  # jobs of a check
+MEMORY = 3 << 30  # bytes that a check with one job may take; each further job takes half as much
+RUNNING, STOPPED = set(), threading.Event()  # the processes that run now; set once this program is to end
+
+
+class Ran(NamedTuple):
+    """How a command ended: its status, its output, the last lines of all that it printed, and the processor seconds that it took."""
+
+    status: int
+    output: bytes
+    said: str
+    seconds: float
 
 
 class Crate:
-    """A crate: its name, its line of crates.txt, and the crates below it, each after those that it depends on."""
+    """A crate: its name, its line of crates.txt, the crates that it names, and all below it, each after those that it depends on."""
 
-    def __init__(self, name, line, below):
-        self.name, self.line, self.below, self.folder = name, line, below, ROOT / "crates" / name
+    def __init__(self, name, line, direct, seconds):
+        self.name, self.line, self.direct, self.folder = name, line, direct, ROOT / "crates" / name
+        self.below = list(dict.fromkeys(low for it in direct for low in [*it.below, it]))
         self.is_program = (self.folder / "src" / "main.rt").exists()
+        self.is_static = "staticlib" in line.partition(":")[0].split()
         self.lines = sum(it.read_bytes().count(b"\n") for it in self.folder.glob("src/**/*.rt"))
-        self.seconds = SECONDS * self.lines + BELOW * (1 + self.is_program) * sum(it.lines for it in below)
+        estimate = SECONDS * self.lines + BELOW * (1 + self.is_program) * sum(it.lines for it in self.below)
+        self.seconds = seconds.get(name, estimate)
 
-    def is_fresh(self):
-        """Whether a library is there that is newer than all texts that it depends on."""
+    def made(self, keeps=False):
+        """The file that is written last when it is built. Of a library, `rt` writes another one, for more than statements."""
+        out = self.folder / "out"
+        if self.is_program or self.is_static:
+            return out / (self.name if self.is_program else f"lib{self.name}.a")
+        return out / "rlib" / ("stamp" if keeps or (out / "rlib" / "stamp").exists() else "statements")
+
+    def is_fresh(self, keeps):
+        """Whether what is built of it is newer than all that it is built from. With --keep `rt` decides that, except for a library."""
+        if keeps and (self.is_program or self.is_static):
+            return False
         with contextlib.suppress(OSError):
-            built = (self.folder / "out" / "rlib" / "stamp").stat().st_mtime
+            built = self.made(keeps).stat().st_mtime
             texts = [path for it in [self, *self.below] for part in TEXTS for path in (it.folder / part).rglob("*")]
-            return built > max(it.stat().st_mtime for it in [ROOT / "crates.txt", *texts])
+            libraries = [] if self.is_program or self.is_static else [it.made(keeps) for it in self.below]
+            return built > max((kit() / "WHAT").stat().st_ctime, *[it.stat().st_mtime for it in [ROOT / "crates.txt", *texts, *libraries]])
         return False
 
 
 def crates():
     """The crates of crates.txt by name, each after those that it depends on."""
     lines = [it.partition("#")[0].strip() for it in (ROOT / "crates.txt").read_text().splitlines()]
-    lines, found = {it.partition(":")[0]: it for it in lines if it}, {}
+    lines, seconds, found = {it.partition(":")[0].split()[0]: it for it in lines if it}, measured(), {}
 
     def add(name):
         if name not in found:
             direct = [add(it) for it in lines[name].partition(":")[2].split() if it in lines]
-            below = dict.fromkeys(low for it in direct for low in [*it.below, it])
-            found[name] = Crate(name, lines[name], list(below))
+            found[name] = Crate(name, lines[name], direct, seconds)
         return found[name]
 
     for name in lines:
         add(name)
     return found
+
+
+def measured():
+    """The seconds that the file has, by the names of crates."""
+    lines = FILE.read_text().splitlines() if FILE.exists() else []
+    return {name: float(seconds) for name, seconds in (it.split() for it in lines if it and not it.startswith("#"))}
+
+
+def write_measured(found):
+    """Writes these seconds into the file, beside those of other crates that it has and that crates.txt lists."""
+    listed, found = crates(), {**measured(), **found}
+    lines = [f"{name} {found[name]:.0f}\n" for name in listed if name in found]
+    head = "# The processor seconds that the proof of each crate takes with one job, as `tools/build.py --measure` found them.\n"
+    FILE.write_text(head + "".join(lines))
+
+
+@functools.cache
+def kit():
+    """The folder of the Rattle kit."""
+    page = subprocess.run(["rt", "doc"], stdin=subprocess.DEVNULL, stdout=subprocess.PIPE, text=True, check=True).stdout
+    return pathlib.Path(page.strip()).parent
 
 
 @contextlib.contextmanager
@@ -95,60 +146,187 @@ def room(crate):
             with locked(it, fcntl.LOCK_SH):
                 for part in [*TEXTS, *["out/rlib"] * (it is not crate)]:
                     if (it.folder / part).is_dir():
-                        copy = shutil.copy2 if part in TEXTS else link_or_copy
-                        shutil.copytree(it.folder / part, to / part, copy_function=copy)
+                        copy_function = shutil.copy2 if part in TEXTS else link_or_copy
+                        shutil.copytree(it.folder / part, to / part, copy_function=copy_function)
         yield to
 
 
-def run(words, folder, given=subprocess.DEVNULL):
-    """Runs a command, and returns its status, its output, and the last lines of all that it printed."""
-    if STOPPED.is_set():
-        return 130, b"", "stopped"
-    ran = subprocess.Popen(words, cwd=folder, stdin=given, stdout=subprocess.PIPE, stderr=subprocess.PIPE)
-    RUNNING.add(ran)
-    output, said = ran.communicate()
-    RUNNING.discard(ran)
-    return ran.returncode, output, "\n".join((output + said).decode(errors="replace").splitlines()[-60:])
+def run(words, folder, given=os.devnull):
+    """Runs a command, with this file as its input."""
+    with tempfile.TemporaryFile() as output, tempfile.TemporaryFile() as said, open(given, "rb") as stdin:
+        if STOPPED.is_set():
+            return Ran(130, b"", "stopped", 0)
+        ran = subprocess.Popen(words, cwd=folder, stdin=stdin, stdout=output, stderr=said)
+        RUNNING.add(ran.pid)
+        if STOPPED.is_set():
+            end_all()
+        _, status, used = os.wait4(ran.pid, 0)
+        RUNNING.discard(ran.pid)
+        ran.returncode = os.waitstatus_to_exitcode(status)
+        texts = [it.seek(0) or it.read() for it in (output, said)]
+    last = "\n".join(b"".join(texts).decode(errors="replace").splitlines()[-60:])
+    return Ran(ran.returncode, texts[0], last, used.ru_utime + used.ru_stime)
 
 
-def prove(crate, jobs):
-    """Has a library be built in its out/, or a program in its own, which is run on its own input. Returns a text if that fails."""
+def end_all():
+    for process in [*RUNNING]:
+        with contextlib.suppress(ProcessLookupError):
+            os.kill(process, signal.SIGTERM)
+
+
+def words(crate, jobs):
+    """The command that proves a crate over the statements of those below, and builds it."""
+    of_kit = ["std", *[it for it in crate.line.partition(":")[2].split() if it not in [low.name for low in crate.direct]]]
+    libraries = {it: kit() / "rlibs" / f"{it}.rlib" for it in of_kit}
+    libraries |= {it.name: it.folder / "out" / "rlib" / f"{it.name}.rlib" for it in crate.direct}
+    found = [kit() / "bin" / "rattle", "build", "--crate-name", crate.name, f"src/{'main' if crate.is_program else 'lib'}.rt"]
+    found += [word for name, path in libraries.items() for word in ("--extern", f"{name}={path}")]
+    found += [word for it in [kit() / "rlibs", *[it.folder / "out" / "rlib" for it in crate.below]] for word in ("-L", f"dependency={it}")]
+    found += ["--antt-project", kit() / "rattle" / "logic" / "antt-project.json", "--logic-built", kit() / "logic_built"]
+    found += ["--links", f"{crate.name}=", "--jobs", str(jobs)]
+    if crate.is_program or crate.is_static:
+        found += ["--toolchain", kit() / "toolchain", "--backend", "llvm", *["--crate-type", "staticlib"] * crate.is_static]
+        return [*found, "-o", f"out/{crate.name}.o" if crate.is_program else f"out/lib{crate.name}.a"]
+    return [*found, "--statements", "-o", f"out/rlib/{crate.name}.rlib"]
+
+
+def link(crate):
+    """The command that makes the program of what the prover has built."""
+    of_c = [kit() / "c" / f"lib{it}_c.a" for it in ("os", "libc")]
+    found = [kit() / "bin" / "rattle-link", "--target", "x86_64-unknown-linux-gnu", "--toolchain", kit() / "toolchain"]
+    return [*found, "-o", f"out/{crate.name}", f"out/{crate.name}.o", *of_c]
+
+
+def prove(crate, jobs, anew):
+    """Has a crate be proved and built in its out/, unless another build did that while this one waited for the locks."""
+    rlib = crate.folder / "out" / "rlib"
+    with contextlib.ExitStack() as held:
+        for it in sorted([crate, *crate.below], key=lambda it: it.name):  # the toolchain's order, in which no two wait for each other
+            held.enter_context(locked(it, fcntl.LOCK_EX if it is crate else fcntl.LOCK_SH))
+        if not anew and crate.is_fresh(keeps=False):
+            return Ran(0, b"", "", 0)
+        begun = time.time()
+        rlib.mkdir(parents=True, exist_ok=True)
+        for it in ("stamp", "statements"):
+            (rlib / it).unlink(missing_ok=True)
+        ran = run(words(crate, jobs), crate.folder)
+        if ran.status == -signal.SIGKILL and jobs > 1:  # most likely for memory
+            ran = run(words(crate, 1), crate.folder)
+        if not ran.status and crate.is_program:
+            linked = run(link(crate), crate.folder)
+            ran = linked._replace(seconds=ran.seconds + linked.seconds)
+        if not ran.status:
+            crate.made().touch()
+            os.utime(crate.made(), (begun, begun))  # a text that was changed since then is newer
+    return ran
+
+
+def prove_keeping(crate, jobs):
+    """Has a crate be proved by the toolchain's commands, which continue from what they kept in its out/, and keep their work there."""
     if crate.is_program:
-        with open(crate.folder / "stdin", "rb") as given:
-            status, output, said = run(["rt", "run", "--jobs", str(jobs)], crate.folder, given)
-        is_right = not status and output == (crate.folder / "stdout").read_bytes()
-        return None if is_right else f"status {status}, or another output than the file stdout has\n{said}"
+        return run(["rt", "run", "--jobs", str(jobs)], crate.folder, input_of(crate))
     with room(crate) as folder, locked(crate, fcntl.LOCK_EX):
         there, here = crate.folder / "out", folder / "out"
         if there.exists():
             shutil.move(there, here)
         try:
-            status, _, said = run(["rt", "lib", "--jobs", str(jobs)], folder)
+            return run(["rt", "lib", "--jobs", str(jobs)], folder)
         finally:
             if here.exists():
                 shutil.move(here, there)
-    return f"status {status}\n{said}" if status else None
 
 
-def lanes():
-    """How many checks may run at a time: one a processor, and as many as memory holds."""
+def input_of(crate):
+    given = crate.folder / "stdin"
+    return given if given.exists() else os.devnull
+
+
+def prove_and_try(crate, jobs, keeps, anew):
+    """Has a crate be proved, and a program be run on its own input. Returns a text if that fails, and the processor seconds of one job."""
+    ran = prove_keeping(crate, jobs) if keeps else prove(crate, jobs, anew)
+    if crate.is_program and not ran.status:
+        tried = ran if keeps else run([crate.made()], crate.folder, input_of(crate))
+        if tried.status or tried.output != (crate.folder / "stdout").read_bytes():
+            return f"status {tried.status}, or another output than the file stdout has\n{tried.said}", 0
+    return f"status {ran.status}\n{ran.said}" if ran.status else None, ran.seconds / COST[jobs]
+
+
+class Limits(NamedTuple):
+    """How many processors there are, how many checks may run at a time, and how many jobs they may have together."""
+
+    processors: int
+    checks: int
+    jobs: int
+
+
+def limits(asked=0):
+    """As many checks and jobs as were asked for, or as the processors keep busy and memory holds. There may be twice as many jobs as
+    processors, since those of a check often wait for each other."""
     with open("/proc/meminfo", encoding="ascii") as it:
         free = next(int(line.split()[1]) << 10 for line in it if line.startswith("MemAvailable:"))
-    return max(1, min(len(os.sched_getaffinity(0)), free // MEMORY))
+    processors = asked or len(os.sched_getaffinity(0))
+    checks = asked or max(1, min(processors, free // MEMORY))
+    return Limits(processors, checks, asked or max(checks, min(2 * processors, checks + (free - checks * MEMORY) // (MEMORY // 2))))
 
 
-def seconds_for(left):
-    """About how long the proofs of these crates take here; of each the processor seconds that it still needs are given."""
-    chain = {}
-    for it in left:  # each after those below it
-        chain[it] = left[it] + max((chain.get(low, 0) for low in it.below), default=0)
-    return max(max(chain.values(), default=0) / GAINS.get(lanes(), MOST_GAIN), sum(left.values()) / lanes())
+class Schedule:
+    """What is left to prove: the seconds of each crate, and the jobs of those that are being proved."""
+
+    def __init__(self, todo, bounds):
+        chain = functools.cache(lambda crate: crate.seconds + max([chain(it) for it in todo if crate in it.below], default=0))
+        self.left, self.running, self.bounds = {it: it.seconds for it in todo}, {}, bounds
+        self.waiting = sorted(todo, key=chain, reverse=True)
+
+    def begin(self):
+        """Begins what can be proved now, the longest chains first, and returns it with the jobs of each: they share those that are free."""
+        ready = [it for it in self.waiting if not any(low in self.left for low in it.below)][: self.bounds.checks - len(self.running)]
+        free, begun = self.bounds.jobs - sum(self.running.values()), {}
+        for at, crate in enumerate(ready[:free]):
+            share = -(-free // (len(ready) - at))
+            begun[crate] = max(1, min(MOST, self.bounds.processors, share))
+            free -= begun[crate]
+        self.waiting = [it for it in self.waiting if it not in begun]
+        self.running |= begun
+        return begun
+
+    def rate(self, crate):
+        """How many of its seconds a crate that is being proved gets done in one."""
+        jobs = self.running[crate]
+        return BUSY[jobs] / COST[jobs] * min(1, self.bounds.processors / sum(BUSY[it] for it in self.running.values()))
+
+    def spend(self, seconds):
+        """Lets this time go by. What takes longer than it should has a tenth left until it ends."""
+        for crate, rate in [(it, self.rate(it)) for it in self.running]:
+            self.left[crate] = max(self.left[crate] - seconds * rate, min(self.left[crate], crate.seconds / 10))
+
+    def end(self, crate):
+        del self.left[crate], self.running[crate]
+
+    def expected(self):
+        """About the seconds until all is proved."""
+        rest, spent = copy.copy(self), 0
+        rest.left, rest.running = dict(self.left), dict(self.running)
+        while rest.left:
+            rest.begin()
+            step, crate = min((rest.left[it] / rest.rate(it), at) for at, it in enumerate(rest.running))
+            ended = list(rest.running)[crate]
+            for it, rate in [(it, rest.rate(it)) for it in rest.running]:
+                rest.left[it] -= step * rate
+            rest.end(ended)
+            spent += step
+        return spent
+
+
+def planned(todo, bounds):
+    """The schedule with as many jobs as are expected to end first: more of them keep all processors busy, and take more time together."""
+    few = min(bounds.processors, bounds.jobs)
+    return min((Schedule(todo, bounds._replace(jobs=it)) for it in range(few, bounds.jobs + 1)), key=Schedule.expected)
 
 
 def estimate(program):
     """About how long a first build of a program takes here, as a text."""
     crate = crates()[program]
-    return shown_minutes(seconds_for({it: it.seconds for it in [*crate.below, crate]}))
+    return shown_minutes(planned([*crate.below, crate], limits()).expected())
 
 
 def shown_minutes(seconds):
@@ -158,77 +336,82 @@ def shown_minutes(seconds):
 class Progress:
     """Prints on standard error how far the build is: on a terminal in one line that changes, else in a line every half minute."""
 
-    def __init__(self, every, todo):
-        self.count, self.name, self.start, self.shown = len(every), every[-1].name, time.monotonic(), 0
-        self.left, self.begun = {it: it.seconds for it in todo}, {}
-        self.expected, self.is_terminal = seconds_for(self.left), sys.stderr.isatty()
+    def __init__(self, every, schedule):
+        self.count, self.name, self.schedule, self.start, self.shown = len(every), every[-1].name, schedule, time.monotonic(), 0
+        self.seen, self.expected, self.is_terminal = self.start, schedule.expected(), sys.stderr.isatty()
 
     def say(self, text, end="\n"):
         print(f"\r\033[K{text}" if self.is_terminal else text, end=end, file=sys.stderr, flush=True)
 
-    def show(self):
-        now, left = time.monotonic(), dict(self.left)
-        if now - self.shown < (1 if self.is_terminal else 30):
-            return
-        for it, begun in self.begun.items():
-            left[it] = max(left[it] - (now - begun), left[it] / 10)
-        expected, spent = seconds_for(left), now - self.start
-        gone = self.expected - expected  # what is left is scaled by the speed of this run so far
+    def text(self, now):
+        """How far it is. What is left is scaled by the speed of this run so far."""
+        expected, spent = self.schedule.expected(), now - self.start
+        gone = self.expected - expected
         expected *= min(max(spent / gone, 0.5), 4) if gone > 60 else 1
-        text = f"{self.name}: {self.count - len(left)} of {self.count} crates proved in {spent / 60:.1f} minutes, about "
-        text += f"{shown_minutes(expected)} left; now {', '.join(it.name for it in self.begun)}"
-        self.say(text[:119] if self.is_terminal else text, "" if self.is_terminal else "\n")
-        self.shown = now
+        text = f"{self.name}: {self.count - len(self.schedule.left)} of {self.count} crates proved in {spent / 60:.1f} minutes, about "
+        running = [f"{it.name}{f' ({jobs} jobs)' if jobs > 1 else ''}" for it, jobs in self.schedule.running.items()]
+        return text + f"{shown_minutes(expected)} left; now {', '.join(running)}"
+
+    def show(self):
+        now = time.monotonic()
+        self.schedule.spend(now - self.seen)
+        self.seen = now
+        if now - self.shown >= (1 if self.is_terminal else 30):
+            text = self.text(now)
+            self.say(text[:119] if self.is_terminal else text, "" if self.is_terminal else "\n")
+            self.shown = now
 
 
-def build(every, at_once):
-    """Proves these crates, each after those below it, the longest chains first. Returns whether all were."""
-    todo = [it for it in every if it.is_program or not it.is_fresh()]
-    progress, running, failed = Progress(every, todo), {}, False
-    chain = lambda crate: crate.seconds + max([chain(it) for it in todo if crate in it.below], default=0)
-    waiting = sorted(todo, key=chain, reverse=True)
-    with ThreadPoolExecutor(at_once) as pool:
-        while running or waiting and not failed:
-            ready = [it for it in waiting if not any(low in progress.left for low in it.below) and not failed]
-            for at, crate in enumerate(ready):
-                idle = at_once - sum(jobs for _, jobs in running.values())
-                if idle < 1:
-                    break
-                jobs = max(1, min(4, idle - len(ready) + 1)) if at == 0 else 1  # the longest chain gets what no other can use
-                waiting.remove(crate)
-                progress.begun[crate] = time.monotonic()
-                running[pool.submit(prove, crate, jobs)] = crate, jobs
-            progress.show()
+def build(every, bounds, keeps=False, anew=False):
+    """Proves those of these crates, each after those below it, that aren't built, or all. Returns the seconds of each by its name, or
+    nothing if one isn't proved: then no other is begun."""
+    schedule = planned([it for it in every if anew or not it.is_fresh(keeps)], bounds)
+    progress, running, failed, seconds = Progress(every, schedule), {}, False, {}
+    with ThreadPoolExecutor(bounds.checks) as pool:
+        while running or schedule.left and not failed:
+            for crate, jobs in ({} if failed else schedule.begin()).items():
+                running[pool.submit(prove_and_try, crate, jobs, keeps, anew)] = crate
+            if not failed:
+                progress.show()
             for it in wait(running, timeout=1, return_when=FIRST_COMPLETED).done:
-                crate, _ = running.pop(it)
-                progress.begun.pop(crate)
-                if it.result():
+                crate = running.pop(it)
+                fault, seconds[crate.name] = it.result()
+                if fault:
                     failed = True
-                    progress.say(f"{crate.name} is not proved: {it.result()}")
+                    progress.say(f"{crate.name} is not proved: {fault}")
                 else:
-                    progress.left.pop(crate)
+                    schedule.end(crate)
     if progress.is_terminal:
         progress.say("", "")
-    return not failed
+    return None if failed else seconds
 
 
 def end_running(*_):
     """Ends what runs, and then this program, which gives back each out/ that it works on."""
     STOPPED.set()
-    for it in [*RUNNING]:
-        it.terminate()
+    end_all()
     sys.exit(130)
 
 
 def main():
     parser = argparse.ArgumentParser(description=__doc__, formatter_class=argparse.RawDescriptionHelpFormatter)
-    parser.add_argument("program", help="the name of a crate")
-    parser.add_argument("--jobs", type=int, default=0, metavar="N", help="checks at a time; without it as many as processors and memory allow")
+    parser.add_argument("crates", nargs="+", metavar="CRATE", help="a program, a library, or a static library")
+    parser.add_argument("--jobs", type=int, default=0, metavar="N", help="jobs at a time, in place of what fits this machine")
+    parser.add_argument("--keep", action="store_true", help="keeps all work of the toolchain, for those who change the crates")
+    parser.add_argument("--measure", action="store_true", help="proves all from nothing, and writes tools/seconds.txt")
     asked = parser.parse_args()
+    if asked.keep and asked.measure:
+        parser.error("--measure measures proofs from nothing, so it doesn't go with --keep")
     for it in signal.SIGTERM, signal.SIGINT, signal.SIGHUP:
         signal.signal(it, end_running)
-    crate = crates().get(asked.program) or sys.exit(f"crates.txt names no crate {asked.program}")
-    return 0 if build([*crate.below, crate], asked.jobs or lanes()) else 1
+    listed = crates()
+    tops = [listed.get(it) or sys.exit(f"crates.txt names no crate {it}") for it in asked.crates]
+    tops = [it for it in tops if asked.measure or not it.is_fresh(asked.keep)]
+    every = list(dict.fromkeys(low for it in tops for low in [*it.below, it]))
+    seconds = build(every, limits(asked.jobs), asked.keep, asked.measure) if every else {}
+    if asked.measure and seconds is not None:
+        write_measured(seconds)
+    return 1 if seconds is None else 0
 
 
 if __name__ == "__main__":
