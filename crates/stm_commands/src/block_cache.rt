@@ -22,11 +22,13 @@ use stm_parse::ParseFault;
 use stm_store::Names;
 use stm_terms::NoMemory;
 
-/// How many blocks are kept.
-const PLACES: usize = 1_024;
-
-/// How many places the block of a text may have.
+/// How many places the block of a text may have, and how many such groups of places there are.
 const WAYS: usize = 4;
+
+const GROUPS: usize = 256;
+
+/// How many blocks are kept.
+const PLACES: usize = GROUPS * WAYS;
 
 /// How many bytes the texts of all kept blocks may have.
 const MOST_BYTES: usize = 1_048_576;
@@ -40,30 +42,49 @@ fn hash_of(text: &str) -> u64 {
     hash
 }
 
-/// The place at which the hash of a text is noted.
-fn place_of(hash: u64) -> usize
+/// The first of the places that the block of a text may have, by its hash.
+fn first_way(hash: u64) -> usize
     ensures { result < 1024 }
 {
-    (hash >> 40) as usize % PLACES
+    (hash >> 40) as usize % GROUPS * WAYS
 }
 
-/// The first of the places that the block of such a text may have.
-fn first_way(place: usize) -> usize
-    requires { place < 1024 }
-    ensures { result < 1024 }
+/// Whether this hash is noted among those of its group.
+fn is_noted(hashes: &[u64], first: usize, hash: u64) -> bool
+    requires { first < 1024 }
 {
-    place - place % WAYS
-}
-
-/// Whether the last text that was noted at a place had this hash; from now on it has. So a text that comes only once takes no place from
-/// one that comes again.
-fn comes_again(hashes: &mut [u64], place: usize, hash: u64) -> bool {
-    if place >= hashes.len() {
-        return false;
+    for place in first..first + WAYS {
+        if place < hashes.len() && hashes[place] == hash {
+            return true;
+        }
     }
-    let again = hashes[place] == hash;
-    hashes[place] = hash;
-    again
+    false
+}
+
+/// Notes a hash as the last of its group. The one that was noted longest ago goes.
+fn note(hashes: &mut [u64], first: usize, hash: u64)
+    requires { first < 1024 }
+{
+    let mut newer = hash;
+    for place in first..first + WAYS {
+        if place < hashes.len() {
+            let older = hashes[place];
+            hashes[place] = newer;
+            newer = older;
+        }
+    }
+}
+
+/// Whether this hash is one of the last that were noted of its group; if not, it is noted. So a text that comes only once takes no place
+/// from one that comes again.
+fn comes_again(hashes: &mut [u64], first: usize, hash: u64) -> bool
+    requires { first < 1024 }
+{
+    if is_noted(hashes, first, hash) {
+        return true;
+    }
+    note(hashes, first, hash);
+    false
 }
 
 fn same_text(one: &str, other: &str) -> bool
@@ -229,18 +250,17 @@ fn prepared_block(
     ensures covered { IfOk result (λ b. (cells : List (Ty × Value)) → Covers cells (named_uses known.now) → Covers cells b.uses) }
 {
     let hash = hash_of(text);
-    let place = place_of(hash);
-    let first = first_way(place);
+    let first = first_way(hash);
     if let Some(block) = kept_block(blocks, first, text) {
         return share_block(block);
     }
     let block = compile_shared(alloc, known, text)?;
-    let again = comes_again(hashes, place, hash);
+    let again = comes_again(hashes, first, hash);
     keep(blocks, bytes, first, hash, &block, again);
     Ok(block)
 }
 
-/// The last blocks that were asked for twice, how many bytes their texts have, and the hash of the last text that was noted at each place.
+/// The last blocks that were asked for twice, how many bytes their texts have, and the hashes of the last texts of each group of places.
 /// A text that is refused is not kept, so names that are declared later leave each kept block the block of its text. Contracts see the
 /// names over which they were checked last.
 pub struct BlockCache {
