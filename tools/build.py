@@ -156,7 +156,7 @@ def run(words, folder, given=os.devnull):
     with tempfile.TemporaryFile() as output, tempfile.TemporaryFile() as said, open(given, "rb") as stdin:
         if STOPPED.is_set():
             return Ran(130, b"", "stopped", 0)
-        ran = subprocess.Popen(words, cwd=folder, stdin=stdin, stdout=output, stderr=said)
+        ran = subprocess.Popen(words, cwd=folder, stdin=stdin, stdout=output, stderr=said, start_new_session=True)
         RUNNING.add(ran.pid)
         if STOPPED.is_set():
             end_all()
@@ -169,9 +169,10 @@ def run(words, folder, given=os.devnull):
 
 
 def end_all():
+    """Ends all commands, with the processes that they started, which would keep the folders in use."""
     for process in [*RUNNING]:
         with contextlib.suppress(ProcessLookupError):
-            os.kill(process, signal.SIGTERM)
+            os.killpg(process, signal.SIGTERM)
 
 
 def words(crate, jobs):
