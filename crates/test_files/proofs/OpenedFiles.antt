@@ -6,7 +6,7 @@ use Rattle.stm_events.specs.SlowDesk.{Slow, after}
 use Rattle.stm_machine.specs.Checkpoints.{CheckpointView}
 use Rattle.stm_history.specs.Judgement.{AreEvents, FitsBefore, FormatFits, IsBefore}
 use Rattle.stm_history.specs.Loading.{HasText, loaded_start}
-use Rattle.stm_history.specs.Starts.{Start, first_state}
+use Rattle.stm_history_text.specs.Starts.{Start, first_state}
 use Rattle.stm_durable.specs.Durable.{AreFit, FitLines, LoadedKept, HistoryKept}
 use Rattle.stm_history.specs.declared.files.loading.Loaded.{Loaded}
 use Rattle.stm_journal.specs.Disk.{Disk}
