@@ -190,7 +190,7 @@ fn a_new_file_that_fails_leaves_the_old_one(rt: HostRuntime) -> Result<(), Fail>
 #[test]
 fn a_long_file_is_written_in_pieces(rt: HostRuntime) -> Result<(), Fail> {
     let alloc = rt.alloc();
-    let (mut journal, _) = opened(&rt, b"")?;
+    let mut journal = journal_of(&rt, 300_000)?;
     let mut new = journal.new_file(alloc)?;
     let mut line = Vec::new(alloc);
     line.resize(50_000, b'x')?;
@@ -199,8 +199,8 @@ fn a_long_file_is_written_in_pieces(rt: HostRuntime) -> Result<(), Fail> {
     }
     let (device, len) = new.finish()?;
     assert_eq!(rt; len, 200_000usize);
-    assert_eq!(rt; device.bytes().len(), 200_000usize);
-    let past = device.past();
+    assert_eq!(rt; device.file.bytes().len(), 200_000usize);
+    let past = device.file.past();
     assert_eq!(rt; past.len(), 4usize);
     assert_eq!(rt; past[3].len(), 196_608usize);
     Ok(())
