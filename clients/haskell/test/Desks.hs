@@ -75,7 +75,8 @@ desks path =
             )
       text <- history desk
       Bytes.length (Bytes.take 11 text) `is` 11
-      Bytes.take 11 text `is` Bytes.pack "{\"format\":4"
+      -- The checkpoint had a stale block, with its cause.
+      Bytes.take 11 text `is` Bytes.pack "{\"format\":5"
   , test "refusals" $ on $ \desk -> do
       _ <- declareVar desk x
       refused' Refusal.Twice (declareVar desk x)
