@@ -198,13 +198,13 @@ def link(crate):
     return [*found, "-o", f"out/{crate.name}", f"out/{crate.name}.o", *of_c]
 
 
-def prove(crate, jobs, anew):
+def prove(crate, jobs, from_nothing):
     """Has a crate be proved and built in its out/, unless another build did that while this one waited for the locks."""
     rlib = crate.folder / "out" / "rlib"
     with contextlib.ExitStack() as held:
         for it in sorted([crate, *crate.below], key=lambda it: it.name):  # the toolchain's order, in which no two wait for each other
             held.enter_context(locked(it, fcntl.LOCK_EX if it is crate else fcntl.LOCK_SH))
-        if not anew and crate.is_fresh(keeps=False):
+        if not from_nothing and crate.is_fresh(keeps=False):
             return Ran(0, b"", "", 0)
         begun = time.time()
         rlib.mkdir(parents=True, exist_ok=True)
@@ -242,9 +242,9 @@ def input_of(crate):
     return given if given.exists() else os.devnull
 
 
-def prove_and_try(crate, jobs, keeps, anew):
+def prove_and_try(crate, jobs, keeps, from_nothing):
     """Has a crate be proved, and a program be run on its own input. Returns a text if that fails, and the processor seconds of one job."""
-    ran = prove_keeping(crate, jobs) if keeps else prove(crate, jobs, anew)
+    ran = prove_keeping(crate, jobs) if keeps else prove(crate, jobs, from_nothing)
     if crate.is_program and not ran.status:
         tried = ran if keeps else run([crate.made()], crate.folder, input_of(crate))
         if tried.status or tried.output != (crate.folder / "stdout").read_bytes():
@@ -363,15 +363,15 @@ class Progress:
             self.shown = now
 
 
-def build(every, bounds, keeps=False, anew=False):
+def build(every, bounds, keeps=False, from_nothing=False):
     """Proves those of these crates, each after those below it, that aren't built, or all. Returns the seconds of each by its name, or
     nothing if one isn't proved: then no other is begun."""
-    schedule = planned([it for it in every if anew or not it.is_fresh(keeps)], bounds)
+    schedule = planned([it for it in every if from_nothing or not it.is_fresh(keeps)], bounds)
     progress, running, failed, seconds = Progress(every, schedule), {}, False, {}
     with ThreadPoolExecutor(bounds.checks) as pool:
         while running or schedule.left and not failed:
             for crate, jobs in ({} if failed else schedule.begin()).items():
-                running[pool.submit(prove_and_try, crate, jobs, keeps, anew)] = crate
+                running[pool.submit(prove_and_try, crate, jobs, keeps, from_nothing)] = crate
             if not failed:
                 progress.show()
             for it in wait(running, timeout=1, return_when=FIRST_COMPLETED).done:
