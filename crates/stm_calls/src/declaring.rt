@@ -1,7 +1,7 @@
 //! Variables that are declared late, on a desk or by a client of a shared one.
 
 ghost use Rattle.std.specs.Prelude.{◌<◌};
-ghost use Rattle.stm_events.specs.SlowDesk.{max_clients};
+ghost use Rattle.stm_terms.specs.Limits.{max_clients};
 
 use crate::blocks::say_parse_fault;
 use crate::words::say;

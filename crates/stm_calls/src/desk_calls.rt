@@ -1,7 +1,7 @@
 //! The calls that change a desk, each on its own.
 
 ghost use Rattle.std.specs.Prelude.{◌<◌};
-ghost use Rattle.stm_events.specs.SlowDesk.{max_clients};
+ghost use Rattle.stm_terms.specs.Limits.{max_clients};
 
 use crate::desks::Counts;
 use crate::words::say;

@@ -2,7 +2,7 @@
 
 ghost use Rattle.std.specs.Prelude.{◌<◌, IfOk, OnOk};
 ghost use Rattle.stm_store.specs.Cells.{Covers};
-ghost use Rattle.stm_events.specs.SlowDesk.{max_clients};
+ghost use Rattle.stm_terms.specs.Limits.{max_clients};
 ghost use Rattle.stm_eval.specs.CoveredJobs.{AreJobsCovered};
 
 use crate::words::say;

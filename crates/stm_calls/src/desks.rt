@@ -1,7 +1,7 @@
 //! Calls of the desk.
 
 ghost use Rattle.std.specs.Prelude.{◌<◌};
-ghost use Rattle.stm_events.specs.SlowDesk.{max_clients};
+ghost use Rattle.stm_terms.specs.Limits.{max_clients};
 
 use crate::blocks::block_of;
 use crate::desk_work::{self, Work};

@@ -1,7 +1,7 @@
 //! A block evaluated on the opening store, with both branches of an `orElse` at once.
 
 ghost use Rattle.std.specs.Prelude.{◌≡◌, ◌≤◌};
-ghost use Rattle.stm_eval.specs.Limits.{max_levels};
+ghost use Rattle.stm_terms.specs.Limits.{max_levels};
 ghost use Rattle.stm_store.specs.Cells.{Covers};
 
 use crate::blocks::block_of;

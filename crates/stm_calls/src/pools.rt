@@ -2,7 +2,7 @@
 //! one after another.
 
 ghost use Rattle.std.specs.Prelude.{◌≡◌, ◌≤◌};
-ghost use Rattle.stm_events.specs.SlowDesk.{max_clients, max_events};
+ghost use Rattle.stm_terms.specs.Limits.{max_clients, max_events};
 
 use crate::histories::say_replay;
 use crate::pool_calls::{answer_shared, work};

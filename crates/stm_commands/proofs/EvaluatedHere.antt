@@ -19,7 +19,8 @@ use Rattle.stm_machine.specs.JobsHandedOut.{sent}
 use Rattle.stm_machine.specs.Machine.{event}
 use Rattle.stm_machine.specs.QueueAndIndex.{due_of}
 use Rattle.stm_events.specs.Refusals.{differing, overtaken_first}
-use Rattle.stm_events.specs.SlowDesk.{Waiter, Slow, max_waiting, under, verdict_on, is_current, find_waiter, with_delivery}
+use Rattle.stm_events.specs.SlowDesk.{Waiter, Slow, under, verdict_on, is_current, find_waiter, with_delivery}
+use Rattle.stm_terms.specs.Limits.{max_waiting}
 use Rattle.stm_events.specs.States.{IsLegalFrom}
 use Rattle.stm_machine.specs.Checkpoints.{MayStart}
 use Rattle.stm_machine.proofs.Agreeing.{reads_differ_nowhere}

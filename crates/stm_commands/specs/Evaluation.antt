@@ -4,7 +4,7 @@ use Rattle.stm_terms.specs.Changes.{cell_value}
 use Rattle.stm_terms.specs.Verdict.{verdict}
 use Rattle.stm_events.specs.declared.errors.DeliverError.{DeliverError}
 use Rattle.stm_machine.specs.JobsHandedOut.{sent}
-use Rattle.stm_events.specs.SlowDesk.{max_waiting}
+use Rattle.stm_terms.specs.Limits.{max_waiting}
 use Rattle.stm_desk.specs.Refusals.{requeued_if_overtaken}
 use Rattle.stm_desk.specs.DeskView.{DeskView, state_of}
 use Rattle.stm_commands.specs.Arguments.{with_nothing, argument_refused}

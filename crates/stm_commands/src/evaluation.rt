@@ -6,7 +6,7 @@ ghost use Rattle.stm_terms.specs.declared.values.Value.{Value};
 ghost use Rattle.stm_eval.specs.declared.job.Job.{Job};
 ghost use Rattle.stm_jobs.specs.Answers.{IsMessageOf, AnswersJob};
 ghost use Rattle.stm_eval.specs.CoveredJobs.{AreJobsCovered};
-ghost use Rattle.stm_events.specs.SlowDesk.{max_waiting};
+ghost use Rattle.stm_terms.specs.Limits.{max_waiting};
 ghost use Rattle.stm_events.specs.States.{IsLegalFrom};
 ghost use Rattle.stm_machine.specs.Checkpoints.{MayStart};
 ghost use Rattle.stm_desk.specs.DeskView.{start_state, state_of};

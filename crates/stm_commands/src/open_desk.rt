@@ -3,7 +3,7 @@
 ghost use Rattle.std.specs.Prelude.{◌≡◌, ◌≤◌, [], IfOk, option_map};
 ghost use Rattle.stm_terms.specs.UnlessNoMemory.{AnswersExcept};
 ghost use Rattle.stm_store.specs.Cells.{Covers, plains};
-ghost use Rattle.stm_events.specs.SlowDesk.{max_events};
+ghost use Rattle.stm_terms.specs.Limits.{max_events};
 ghost use Rattle.stm_events.specs.States.{IsLegalFrom};
 ghost use Rattle.stm_machine.specs.Checkpoints.{MayStart};
 ghost use Rattle.stm_desk.specs.DeskView.{start_state};

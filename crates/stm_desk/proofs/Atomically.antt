@@ -17,7 +17,8 @@ use Rattle.stm_events.specs.declared.event.What.TheVariants.{Submitted, Installe
 use Rattle.stm_events.specs.Laws.{SubmittedAreWellTyped}
 use Rattle.stm_events.specs.Refusals.{submit_first, blocks_there}
 use Rattle.stm_events.specs.SlowAtomically.{atomically, AllowsEach}
-use Rattle.stm_events.specs.SlowDesk.{Slow, verdict_on, is_blocks, after, state_from, LegalFrom, max_clients}
+use Rattle.stm_events.specs.SlowDesk.{Slow, verdict_on, is_blocks, after, state_from, LegalFrom}
+use Rattle.stm_terms.specs.Limits.{max_clients}
 use Rattle.stm_events.specs.SlowDrain.{after_all}
 use Rattle.stm_events.proofs.Folds.{state-append}
 use Rattle.stm_events.proofs.TypedStores.{submitted-append}

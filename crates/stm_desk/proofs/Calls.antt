@@ -9,7 +9,8 @@ use Rattle.stm_terms.specs.declared.values.Value.{Value}
 use Rattle.stm_check.specs.TypedBlock.{Block}
 use Rattle.stm_events.specs.declared.event.Event.{Event}
 use Rattle.stm_events.specs.declared.event.What.{What}
-use Rattle.stm_events.specs.SlowDesk.{Slow, state_from, max_clients}
+use Rattle.stm_events.specs.SlowDesk.{Slow, state_from}
+use Rattle.stm_terms.specs.Limits.{max_clients}
 use Rattle.stm_events.specs.Refusals.{submit_refused, late_declare_refused, label_refused, cancel_refused}
 use Rattle.stm_events.specs.Laws.{SubmitsWellTyped}
 use Rattle.stm_events.proofs.Folds.{state-push, legal-push}

@@ -4,7 +4,8 @@ use Rattle.std.specs.Prelude.{ℕ, ◌≤◌, List, length, Option}
 use Rattle.stm_store.specs.Tables.{Declared}
 use Rattle.stm_events.specs.declared.event.Event.{Event}
 use Rattle.stm_events.specs.Labels.{Labels, AreLabels, AreSameLabels, labels_from}
-use Rattle.stm_events.specs.SlowDesk.{state_from, max_events}
+use Rattle.stm_events.specs.SlowDesk.{state_from}
+use Rattle.stm_terms.specs.Limits.{max_events}
 use Rattle.stm_events.specs.States.{IsLegalFrom}
 use Rattle.stm_events.specs.Laws.{SubmittedAreWellTyped}
 use Rattle.stm_machine.specs.Checkpoints.{CheckpointView, start_of, first_labels, MayStart}

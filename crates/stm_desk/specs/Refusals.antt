@@ -13,7 +13,8 @@ use Rattle.stm_events.specs.declared.errors.CancelError.{CancelError}
 use Rattle.stm_events.specs.declared.errors.LateDeclareError.{LateDeclareError}
 use Rattle.stm_events.specs.declared.errors.DeliverError.{DeliverError}
 use Rattle.stm_events.specs.declared.errors.FinishError.{FinishError}
-use Rattle.stm_events.specs.SlowDesk.{Slow, verdict_on, max_waiting}
+use Rattle.stm_events.specs.SlowDesk.{Slow, verdict_on}
+use Rattle.stm_terms.specs.Limits.{max_waiting}
 use Rattle.stm_events.specs.Refusals.{missing, blocks_there, overflows, submit_refused, late_declare_refused, label_refused, cancel_refused, finish_refused, DeliveryRefusedAs, pending_left}
 use Rattle.stm_desk.specs.declared.errors.AtomicError.{AtomicError}
 use Rattle.stm_desk.specs.declared.errors.AtomicError.TheVariants as atomic

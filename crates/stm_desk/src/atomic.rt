@@ -4,7 +4,8 @@ ghost use Rattle.std.specs.Prelude.{◌≡◌, ◌≢◌, ◌+◌, ◌<◌, ◌�
 ghost use Rattle.stm_store.specs.Cells.{plains, Fits, applied_answer as told_of};
 ghost use Rattle.stm_events.specs.Refusals.{overflows, submit_refused};
 ghost use Rattle.stm_events.specs.SlowAtomically.{atomically};
-ghost use Rattle.stm_events.specs.SlowDesk.{is_blocks, verdict_on, max_clients};
+ghost use Rattle.stm_events.specs.SlowDesk.{is_blocks, verdict_on};
+ghost use Rattle.stm_terms.specs.Limits.{max_clients};
 ghost use Rattle.stm_events.specs.declared.event.What.TheVariants.{Submitted, Installed, Finished};
 ghost use Rattle.stm_machine.specs.Atomic.{IsVerdictOf};
 ghost use Rattle.stm_machine.specs.Machine.{event};

@@ -2,7 +2,7 @@
 
 ghost use Rattle.std.specs.Prelude.{◌≡◌, ◌<◌, false, OnOk, OnErr};
 ghost use Rattle.stm_terms.specs.UnlessNoMemory.{RefusedAs};
-ghost use Rattle.stm_events.specs.SlowDesk.{max_clients};
+ghost use Rattle.stm_terms.specs.Limits.{max_clients};
 ghost use Rattle.stm_events.specs.declared.event.What.TheVariants.{Cancelled};
 ghost use Rattle.stm_desk.specs.DeskView.{is_full, with_event};
 ghost use Rattle.stm_desk.specs.Limit.{limited_cancel};

@@ -1,7 +1,7 @@
 //! A message of an evaluator.
 
 ghost use Rattle.std.specs.Prelude.{◌≡◌, ◌<◌, false, OnOk, IfErr, OnErr};
-ghost use Rattle.stm_events.specs.SlowDesk.{max_clients};
+ghost use Rattle.stm_terms.specs.Limits.{max_clients};
 ghost use Rattle.stm_eval.specs.EvaluatedFields.{message_ticket};
 ghost use Rattle.stm_events.specs.Refusals.{without_message};
 ghost use Rattle.stm_machine.specs.Machine.{MayDeliver};

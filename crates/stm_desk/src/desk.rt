@@ -1,7 +1,7 @@
 //! The desk, and how it opens.
 
 ghost use Rattle.std.specs.Prelude.{◌≡◌, ◌≤◌, [], IfOk, None};
-ghost use Rattle.stm_events.specs.SlowDesk.{max_events as most_events};
+ghost use Rattle.stm_terms.specs.Limits.{max_events as most_events};
 ghost use Rattle.stm_desk.specs.DeskView.{is_full};
 
 use std::alloc::Global;

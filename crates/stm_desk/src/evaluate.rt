@@ -4,7 +4,8 @@ ghost use Rattle.std.specs.Prelude.{◌≡◌, ◌<◌, ◌≤◌, true, false, 
 ghost use Rattle.stm_store.specs.Cells.{plains};
 ghost use Rattle.stm_queue.specs.Queue.{queued, tickets};
 ghost use Rattle.stm_queue.specs.SortedTickets.{IsRising};
-ghost use Rattle.stm_events.specs.SlowDesk.{find_waiter, max_clients};
+ghost use Rattle.stm_events.specs.SlowDesk.{find_waiter};
+ghost use Rattle.stm_terms.specs.Limits.{max_clients};
 ghost use Rattle.stm_events.specs.declared.event.What.TheVariants.{Installed};
 ghost use Rattle.stm_machine.specs.Keeping.{IsVerdictUnder};
 ghost use Rattle.stm_machine.specs.QueueAndIndex.{due_of};

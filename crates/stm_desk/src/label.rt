@@ -3,7 +3,7 @@
 ghost use Rattle.std.specs.Prelude.{◌≡◌, ◌<◌, true, false, OnOk, OnErr};
 ghost use Rattle.stm_terms.specs.UnlessNoMemory.{RefusedAs};
 ghost use Rattle.stm_events.specs.Labels.{is_label, label_of};
-ghost use Rattle.stm_events.specs.SlowDesk.{max_clients};
+ghost use Rattle.stm_terms.specs.Limits.{max_clients};
 ghost use Rattle.stm_events.specs.declared.event.What.TheVariants.{Labelled};
 ghost use Rattle.stm_desk.specs.DeskView.{labels_of, is_full, with_event};
 ghost use Rattle.stm_desk.specs.Limit.{limited_label};

@@ -3,7 +3,8 @@
 ghost use Rattle.std.specs.Prelude.{◌≡◌, ◌≤◌, ◌↔◌, false, length, IsOk, IfOk};
 ghost use Rattle.stm_events.specs.Labels.{AreSameLabels, labels_from};
 ghost use Rattle.stm_events.specs.Laws.{SubmittedAreWellTyped};
-ghost use Rattle.stm_events.specs.SlowDesk.{state_from, max_events as most_events};
+ghost use Rattle.stm_events.specs.SlowDesk.{state_from};
+ghost use Rattle.stm_terms.specs.Limits.{max_events as most_events};
 ghost use Rattle.stm_events.specs.States.{IsLegalFrom};
 ghost use Rattle.stm_machine.specs.Checkpoints.{start_of, first_labels, MayStart};
 ghost use Rattle.stm_machine.specs.Machine.{IsAt};

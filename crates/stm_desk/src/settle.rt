@@ -2,7 +2,8 @@
 
 ghost use Rattle.std.specs.Prelude.{◌≡◌, ◌<◌, ◌≤◌, true, false, None, Some, length, IfOk, OnOk, IfErr, OnErr};
 ghost use Rattle.stm_store.specs.Cells.{plains};
-ghost use Rattle.stm_events.specs.SlowDesk.{find_waiter, max_clients};
+ghost use Rattle.stm_events.specs.SlowDesk.{find_waiter};
+ghost use Rattle.stm_terms.specs.Limits.{max_clients};
 ghost use Rattle.stm_events.specs.SlowSettle.{AllBlock, Order as AnyOrder};
 ghost use Rattle.stm_events.specs.States.{IsPossible, IsTypedState, IsLegalFrom};
 ghost use Rattle.stm_machine.specs.QueueAndIndex.{due_of};

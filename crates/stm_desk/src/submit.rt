@@ -2,7 +2,7 @@
 
 ghost use Rattle.std.specs.Prelude.{◌≡◌, ◌<◌, false, IfOk, OnOk, OnErr};
 ghost use Rattle.stm_terms.specs.UnlessNoMemory.{RefusedAs};
-ghost use Rattle.stm_events.specs.SlowDesk.{max_clients};
+ghost use Rattle.stm_terms.specs.Limits.{max_clients};
 ghost use Rattle.stm_events.specs.declared.event.What.TheVariants.{Submitted};
 ghost use Rattle.stm_events.specs.Laws.{IsWellTyped};
 ghost use Rattle.stm_desk.specs.DeskView.{state_of, is_full, with_event};

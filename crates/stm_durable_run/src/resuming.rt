@@ -2,7 +2,8 @@
 
 ghost use Rattle.std.specs.Prelude.{◌≡◌, ◌≤◌, length, IfOk, IfSome};
 ghost use Rattle.stm_events.specs.Laws.{SubmittedAreWellTyped};
-ghost use Rattle.stm_events.specs.SlowDesk.{max_events, state_from};
+ghost use Rattle.stm_events.specs.SlowDesk.{state_from};
+ghost use Rattle.stm_terms.specs.Limits.{max_events};
 ghost use Rattle.stm_events.specs.States.{IsLegalFrom};
 ghost use Rattle.stm_machine.specs.Checkpoints.{MayStart, start_of};
 ghost use Rattle.stm_machine.specs.Machine.{IsAt};

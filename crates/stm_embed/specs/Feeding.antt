@@ -1,6 +1,6 @@
 -- The console that C holds, and the bytes that wait to be given.
 use Rattle.std.specs.Prelude.{◌≡◌, ◌≤◌, ℕ, List, [], ◌++◌, length, min, take, drop}
-use Rattle.stm_events.specs.SlowDesk.{max_events}
+use Rattle.stm_terms.specs.Limits.{max_events}
 use Rattle.stm_lines.specs.Lines.{whole_lines_of}
 use Rattle.stm_run.specs.declared.console.Console.{Console}
 use Rattle.stm_run.specs.Console.{answers_to, initial_console}

@@ -14,7 +14,7 @@ ghost use Rattle.stm_terms.specs.Verdict.{verdict};
 ghost use Rattle.stm_store.specs.Cells.{Covers};
 ghost use Rattle.stm_log.specs.LogModel.{Logged};
 ghost use Rattle.stm_eval.specs.EvaluatedFields.{message_ticket, message_block, message_reads, message_verdict};
-ghost use Rattle.stm_eval.specs.Limits.{max_levels};
+ghost use Rattle.stm_terms.specs.Limits.{max_levels};
 ghost use Rattle.stm_eval.specs.InterpreterSteps.{size, size_left, StepsTo};
 ghost use Rattle.stm_eval.specs.BothBranches.{DefinedLeft, IsReadSetOf, CanRun, RunsTo, entered};
 
@@ -33,9 +33,6 @@ use stm_terms::NoMemory;
 use stm_terms::action::Action;
 use stm_terms::values::Value;
 use stm_terms::verdicts::Verdict;
-
-/// How many levels of `orElse` may be evaluated with both branches at once.
-pub const MAX_LEVELS: u32 = 8;
 
 /// What a branch of an `orElse` works on.
 #[derive(Drop)]

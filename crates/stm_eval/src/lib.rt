@@ -6,8 +6,7 @@
 //! a block does depends only on what it reads, also in left branches and in actions that were rolled back.
 //!
 //! What a reader has to believe is in `specs/`: `Messages` (when a message is true, and what holds of a block on a store),
-//! `EvaluatedFields` (the parts of a message), `CoveredJobs` (what a store must have for jobs), `Limits` (how many levels of
-//! `orElse` may be evaluated with both branches at once) and `Laws`.
+//! `EvaluatedFields` (the parts of a message), `CoveredJobs` (what a store must have for jobs) and `Laws`.
 #![tactic(auto)]
 
 pub mod block;
@@ -23,8 +22,9 @@ pub mod scratch;
 
 pub use block::{try_action, try_block};
 pub use evaluate_job::evaluate;
-pub use forked::{MAX_LEVELS, evaluate_forked};
+pub use forked::evaluate_forked;
 pub use job::Job;
 pub use message::Evaluated;
 pub use scratch::{Scratch, try_block_in};
 pub use stm_log::Reads;
+pub use stm_terms::limits::MAX_LEVELS;

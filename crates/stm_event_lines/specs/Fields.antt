@@ -21,7 +21,7 @@ use Rattle.stm_events.specs.declared.event.What.{What}
 use Rattle.stm_events.specs.declared.event.What.TheVariants.{Submitted, Installed, Finished, Cancelled, Declared as DeclaredLate, Labelled}
 use Rattle.stm_event_lines.specs.declared.read.Header.{Header}
 use Rattle.stm_events.specs.Labels.{is_label}
-use Rattle.stm_events.specs.SlowDesk.{max_clients}
+use Rattle.stm_terms.specs.Limits.{max_clients}
 use Rattle.stm_check.specs.TypedBlock.{Block}
 use Rattle.stm_event_lines.specs.WholeBlocks.{BlockFault, checked_block}
 

@@ -9,7 +9,7 @@ use Rattle.stm_terms.specs.declared.values.Fault.TheVariants.{Thrown, Overflow}
 use Rattle.stm_terms.specs.declared.verdicts.Verdict.{Verdict}
 use Rattle.stm_terms.specs.declared.verdicts.Verdict.TheVariants.{Commits, Throws, Blocks}
 use Rattle.stm_terms.specs.Ast.{has_catch}
-use Rattle.stm_terms.specs.Limits.{most_refs}
+use Rattle.stm_terms.specs.Limits.{most_refs, max_clients}
 use Rattle.stm_terms.specs.Names.{is_name_text}
 use Rattle.stm_store.specs.Tables.{Declared}
 use Rattle.stm_store.specs.Naming.{Named}
@@ -17,7 +17,6 @@ use Rattle.stm_events.specs.declared.event.Event.{Event}
 use Rattle.stm_events.specs.declared.event.What.{What}
 use Rattle.stm_events.specs.declared.event.What.TheVariants.{Submitted, Installed, Finished, Cancelled, Declared as DeclaredLate, Labelled}
 use Rattle.stm_events.specs.Labels.{is_label}
-use Rattle.stm_events.specs.SlowDesk.{max_clients}
 use Rattle.stm_event_lines.specs.Lines.{declaring_format}
 use Rattle.stm_event_lines.specs.WholeBlocks.{checked_block}
 

@@ -5,7 +5,7 @@ ghost use Rattle.stm_store.specs.Naming.{Named};
 ghost use Rattle.stm_event_lines.specs.Fields.{block_of_text};
 ghost use Rattle.stm_event_lines.specs.Fits.{FitsNames, FitsVerdict, FitsValue, FitWrites, FitNumbers, Is32Bit};
 ghost use Rattle.stm_event_lines.specs.Lines.{event_line};
-ghost use Rattle.stm_events.specs.SlowDesk.{max_clients};
+ghost use Rattle.stm_terms.specs.Limits.{max_clients};
 
 use crate::draft::{Draft, DraftVerdict};
 use crate::write::event_text;

@@ -9,7 +9,8 @@ use Rattle.stm_check.specs.TypedBlock.{Block}
 use Rattle.stm_events.specs.declared.event.What.{What}
 use Rattle.stm_events.specs.declared.event.What.TheVariants.{Submitted, Installed, Finished}
 use Rattle.stm_events.specs.SlowAtomically.{finish_at_once, install_at_once, atomically, AllowsEach}
-use Rattle.stm_events.specs.SlowDesk.{Waiter, Slow, verdict_on, looked_on, waking, is_blocks, intersects, is_current, find_waiter, without_waiter, with_delivery, delivered, after_writes, stale_after, after, Allows, MayInstall, MayFinish, max_cells, max_waiting}
+use Rattle.stm_events.specs.SlowDesk.{Waiter, Slow, verdict_on, looked_on, waking, is_blocks, intersects, is_current, find_waiter, without_waiter, with_delivery, delivered, after_writes, stale_after, after, Allows, MayInstall, MayFinish, max_cells}
+use Rattle.stm_terms.specs.Limits.{max_waiting}
 use Rattle.stm_events.specs.SlowDrain.{after_all}
 use Rattle.stm_events.specs.Laws.{AreRising}
 use Rattle.stm_events.specs.States.{IsPossible}

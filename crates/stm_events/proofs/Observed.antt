@@ -15,7 +15,8 @@ use Rattle.stm_events.specs.BlockStatus.{read_then}
 use Rattle.stm_events.specs.Labels.{is_label}
 use Rattle.stm_events.specs.Ready.{is_ready}
 use Rattle.stm_events.specs.Refusals.{missing, submit_first, label_first, cancel_first, differing, overtaken_first, blocks_there, overflows, finish_first}
-use Rattle.stm_events.specs.SlowDesk.{Waiter, Slow, declaration, with_name, under, verdict_on, waking, is_current, standing, find_waiter, without_waiter, stale_after, max_waiting, MayInstall, MayFinish, after, Allows, state_from, LegalFrom}
+use Rattle.stm_events.specs.SlowDesk.{Waiter, Slow, declaration, with_name, under, verdict_on, waking, is_current, standing, find_waiter, without_waiter, stale_after, MayInstall, MayFinish, after, Allows, state_from, LegalFrom}
+use Rattle.stm_terms.specs.Limits.{max_waiting}
 use Rattle.stm_events.specs.SlowSettle.{Stop, NoRoom, NoCells, lowest, is_due, ends, can_end, installing, ending, next_of, Order, next_what, has_cells, settle_on, running, stop_on, run_stop}
 use Rattle.stm_events.specs.SlowDrain.{is_next, drain_of, next_drain}
 use Rattle.stm_events.specs.Laws.{AreRising}

@@ -13,7 +13,8 @@ use Rattle.stm_store.specs.Naming.{number_named, may_hold_known}
 use Rattle.stm_store.specs.Tables.{is_type}
 use Rattle.stm_check.specs.TypedBlock.{Block}
 use Rattle.stm_queue.specs.Queue.{Entry, marked}
-use Rattle.stm_events.specs.SlowDesk.{Waiter, Slow, under, verdict_on, is_blocks, is_new, is_current, find_waiter, max_waiting, max_cells}
+use Rattle.stm_events.specs.SlowDesk.{Waiter, Slow, under, verdict_on, is_blocks, is_new, is_current, find_waiter, max_cells}
+use Rattle.stm_terms.specs.Limits.{max_waiting}
 use Rattle.stm_events.specs.declared.errors.SubmitError.{SubmitError}
 use Rattle.stm_events.specs.declared.errors.SubmitError.TheVariants as submit
 use Rattle.stm_events.specs.declared.errors.DeliverError.{DeliverError}

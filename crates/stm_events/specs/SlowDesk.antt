@@ -10,6 +10,7 @@ use Rattle.stm_terms.specs.declared.values.Value.TheVariants.{Var}
 use Rattle.stm_terms.specs.declared.verdicts.Verdict.{Verdict}
 use Rattle.stm_terms.specs.declared.verdicts.Verdict.TheVariants.{Commits, Throws, Blocks}
 use Rattle.stm_terms.specs.Changes.{Variables, cell_value}
+use Rattle.stm_terms.specs.Limits.{max_waiting, max_events, max_clients}
 use Rattle.stm_terms.specs.Names.{is_name_text}
 use Rattle.stm_terms.specs.ReadSet.{looks_of}
 use Rattle.stm_terms.specs.Verdict.{verdict}
@@ -136,21 +137,9 @@ delivered t store (w ∷ ws) = if nat_eq t w.ticket then with_delivery store w �
 abbrev pub stale_after : List ℕ → List Waiter → List ℕ
 stale_after woken ws = map (λ w. w.ticket) (filter (becomes_stale woken) ws)
 
--- how many blocks may wait
-abbrev pub max_waiting : ℕ
-max_waiting = 65536
-
 -- how many variables a store may have
 abbrev pub max_cells : ℕ
 max_cells = most_cells
-
--- how many events a history may have
-abbrev pub max_events : ℕ
-max_events = 1048576
-
--- how many clients there may be
-abbrev pub max_clients : ℕ
-max_clients = 128
 
 -- the commit of a block that makes one variable and does nothing else, as `newTVar` does
 abbrev pub declaration : Ty → Value → Verdict

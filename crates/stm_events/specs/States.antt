@@ -15,7 +15,8 @@ use Rattle.stm_events.specs.declared.event.What.{What}
 use Rattle.stm_events.specs.declared.staleness.StalenessRule.{StalenessRule}
 use Rattle.stm_events.specs.BlockStatus.{read_since_then}
 use Rattle.stm_events.specs.Laws.{AreRising, IsWellTyped, SubmittedAreWellTyped}
-use Rattle.stm_events.specs.SlowDesk.{Since, Waiter, Slow, Standing, under, verdict_on, weak_standing, find_waiter, after, Allows, initial_state, state_from, LegalFrom, max_waiting, max_events}
+use Rattle.stm_events.specs.SlowDesk.{Since, Waiter, Slow, Standing, under, verdict_on, weak_standing, find_waiter, after, Allows, initial_state, state_from, LegalFrom}
+use Rattle.stm_terms.specs.Limits.{max_waiting, max_events}
 
 -- ---- states that events may go on from
 -- the variables that each waiting block names are there

@@ -15,7 +15,8 @@ use Rattle.stm_events.specs.declared.event.Event.{Event}
 use Rattle.stm_events.specs.declared.event.What.{What}
 use Rattle.stm_events.specs.declared.event.What.TheVariants.{Submitted, Installed, Finished, Cancelled, Declared as DeclaredLate, Labelled}
 use Rattle.stm_events.specs.Refusals.{differing, install_first, DeliveryRefusedAt, DeliveryRefusedAs}
-use Rattle.stm_events.specs.SlowDesk.{Waiter, Slow, under, verdict_on, find_waiter, without_waiter, stale_after, waking, MayInstall, MayFinish, Allows, max_events, max_clients, after}
+use Rattle.stm_events.specs.SlowDesk.{Waiter, Slow, under, verdict_on, find_waiter, without_waiter, stale_after, waking, MayInstall, MayFinish, Allows, after}
+use Rattle.stm_terms.specs.Limits.{max_events, max_clients}
 use Rattle.stm_events.specs.States.{IsLegalFrom}
 use Rattle.stm_events.proofs.Folds.{legal_split, state-push, legal-push}
 use Rattle.stm_events.proofs.Rising.{next_le}

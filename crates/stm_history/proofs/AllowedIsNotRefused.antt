@@ -15,7 +15,8 @@ use Rattle.stm_store.specs.Naming.{may_hold_known, number_named}
 use Rattle.stm_store.specs.Tables.{is_type}
 use Rattle.stm_check.specs.TypedBlock.{Block}
 use Rattle.stm_events.specs.declared.event.What.TheVariants.{Submitted, Finished, Cancelled, Declared as DeclaredLate, Labelled}
-use Rattle.stm_events.specs.SlowDesk.{Since, Waiter, Slow, is_new_since, current_since, MayFinish, find_waiter, Allows, max_waiting, max_cells}
+use Rattle.stm_events.specs.SlowDesk.{Since, Waiter, Slow, is_new_since, current_since, MayFinish, find_waiter, Allows, max_cells}
+use Rattle.stm_terms.specs.Limits.{max_waiting}
 use Rattle.stm_events.specs.Refusals.{declare_first, late_declare_refused, missing, submit_refused, cancel_first, cancel_refused, label_first, label_refused, overflows, finish_first, finish_refused}
 
 -- ---- a block that is submitted

@@ -28,7 +28,8 @@ use Rattle.stm_events.specs.declared.errors.SubmitError.TheVariants as submit
 use Rattle.stm_events.specs.declared.event.Event.{Event}
 use Rattle.stm_events.specs.declared.event.What.TheVariants.{Submitted, Installed, Cancelled, Declared as DeclaredLate, Labelled}
 use Rattle.stm_events.specs.Refusals.{declare_first, late_declare_refused, missing, submit_first, submit_refused, cancel_first, cancel_refused, label_first, label_refused, finish_first, finish_refused, differing, overtaken_first, install_first, DeliveryRefusedAt, DeliveryRefusedAs, blocks_there, overflows}
-use Rattle.stm_events.specs.SlowDesk.{Waiter, Slow, Allows, under, verdict_on, is_new, is_current, find_waiter, max_cells, max_clients, max_events, max_waiting}
+use Rattle.stm_events.specs.SlowDesk.{Waiter, Slow, Allows, under, verdict_on, is_new, is_current, find_waiter, max_cells}
+use Rattle.stm_terms.specs.Limits.{max_clients, max_events, max_waiting}
 use Rattle.stm_events.specs.States.{IsLegalFrom}
 use Rattle.stm_machine.specs.JobsHandedOut.{IsPresent, block_at}
 use Rattle.stm_machine.specs.Machine.{IsAt, MayDeliver}

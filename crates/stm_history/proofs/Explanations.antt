@@ -10,7 +10,7 @@ use Rattle.stm_events.specs.declared.event.What.{What}
 use Rattle.stm_events.specs.declared.event.What.TheVariants.{Submitted, Installed, Finished, Cancelled, Declared as DeclaredLate, Labelled}
 use Rattle.stm_events.specs.Delivered.{Delivered}
 use Rattle.stm_events.specs.declared.kept_cause.KeptCause.{KeptCause}
-use Rattle.stm_events.specs.SlowDesk.{max_clients}
+use Rattle.stm_terms.specs.Limits.{max_clients}
 use Rattle.stm_machine.specs.Checkpoints.{CheckpointView, MayAdd, checkpoint_block}
 use Rattle.stm_machine.specs.Machine.{event}
 use Rattle.stm_history.specs.declared.files.check.Stage.TheVariants.{Running}

@@ -7,7 +7,8 @@ use Rattle.stm_store.specs.Cells.{IsStore, plains}
 use Rattle.stm_store.specs.Naming.{Named}
 use Rattle.stm_store.specs.Tables.{Declared}
 use Rattle.stm_events.specs.declared.event.Event.{Event}
-use Rattle.stm_events.specs.SlowDesk.{Slow, after, max_cells, max_waiting, state_from}
+use Rattle.stm_events.specs.SlowDesk.{Slow, after, max_cells, state_from}
+use Rattle.stm_terms.specs.Limits.{max_waiting}
 use Rattle.stm_machine.specs.declared.checkpoint.CheckpointBlock.{CheckpointBlock}
 use Rattle.stm_machine.specs.Checkpoints.{CheckpointView}
 use Rattle.stm_event_lines.specs.CheckpointLines.{FitsWaiting, IsCheckpointFormat, cell_line, checkpoint_header_line}

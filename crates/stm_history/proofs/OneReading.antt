@@ -10,7 +10,8 @@ use Rattle.stm_check.specs.TypedBlock.{Block}
 use Rattle.stm_events.specs.Delivered.{Delivered}
 use Rattle.stm_events.specs.declared.kept_cause.KeptCause.{KeptCause}
 use Rattle.stm_events.specs.declared.event.Event.{Event}
-use Rattle.stm_events.specs.SlowDesk.{LegalFrom, Slow, max_cells, max_events, after, state_from}
+use Rattle.stm_events.specs.SlowDesk.{LegalFrom, Slow, max_cells, after, state_from}
+use Rattle.stm_terms.specs.Limits.{max_events}
 use Rattle.stm_events.specs.States.{IsLegalFrom}
 use Rattle.stm_waiting.specs.declared.waiting.Held.{Held}
 use Rattle.stm_machine.specs.declared.checkpoint.CheckpointBlock.{CheckpointBlock}

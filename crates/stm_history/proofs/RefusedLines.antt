@@ -7,7 +7,8 @@ use Rattle.stm_store.specs.Cells.{plain}
 use Rattle.stm_store.specs.Naming.{Named}
 use Rattle.stm_store.specs.Tables.{Declared}
 use Rattle.stm_events.specs.declared.event.Event.{Event}
-use Rattle.stm_events.specs.SlowDesk.{max_cells, max_waiting}
+use Rattle.stm_events.specs.SlowDesk.{max_cells}
+use Rattle.stm_terms.specs.Limits.{max_waiting}
 use Rattle.stm_machine.specs.declared.checkpoint.CheckpointBlock.{CheckpointBlock}
 use Rattle.stm_machine.specs.Checkpoints.{CheckpointView}
 use Rattle.stm_event_lines.specs.declared.checkpoint.CheckpointHeader.{CheckpointHeader}

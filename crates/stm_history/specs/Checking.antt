@@ -6,7 +6,8 @@ use Rattle.stm_store.specs.Cells.{Covers, IsStore, plains}
 use Rattle.stm_store.specs.Naming.{AreKnown, MayHaveType, Named, is_gapless, named_uses, number_named}
 use Rattle.stm_store.specs.Tables.{Declared}
 use Rattle.stm_events.specs.declared.event.Event.{Event}
-use Rattle.stm_events.specs.SlowDesk.{max_cells, max_waiting}
+use Rattle.stm_events.specs.SlowDesk.{max_cells}
+use Rattle.stm_terms.specs.Limits.{max_waiting}
 use Rattle.stm_events.specs.States.{IsLegalFrom}
 use Rattle.stm_machine.specs.declared.checkpoint.CheckpointBlock.{CheckpointBlock}
 use Rattle.stm_machine.specs.Checkpoints.{CheckpointView, MayAdd, max_next}

@@ -6,7 +6,8 @@ use Rattle.stm_store.specs.Cells.{Covers, plains}
 use Rattle.stm_store.specs.Naming.{named_uses}
 use Rattle.stm_store.specs.Tables.{Declared}
 use Rattle.stm_events.specs.declared.event.Event.{Event}
-use Rattle.stm_events.specs.SlowDesk.{max_cells, max_waiting}
+use Rattle.stm_events.specs.SlowDesk.{max_cells}
+use Rattle.stm_terms.specs.Limits.{max_waiting}
 use Rattle.stm_machine.specs.Checkpoints.{CheckpointView}
 use Rattle.stm_history.specs.declared.files.check.Stage.{Stage}
 use Rattle.stm_history.specs.declared.files.check.Stage.TheVariants.{Before, Declaring, AtCells, AtBlocks, Running}

@@ -1,10 +1,9 @@
 //! Many jobs at once.
 
 ghost use Rattle.std.specs.Prelude.{◌≡◌, ℕ, ◌<◌, ◌≤◌, All, vec_len, slice_index_or, IfOk, IfErr};
-ghost use Rattle.stm_eval.specs.Limits.{max_levels};
+ghost use Rattle.stm_terms.specs.Limits.{max_levels, max_workers};
 ghost use Rattle.stm_eval.specs.CoveredJobs.{AreJobsCovered};
 ghost use Rattle.stm_jobs.specs.Answers.{AnswersJob};
-ghost use Rattle.stm_jobs.specs.Limits.{max_workers};
 ghost use Rattle.stm_jobs.specs.Slots.{IsWorked, IsReady};
 
 use crate::slot::{Slot, answers_of, slots_of, work_on};
@@ -14,9 +13,6 @@ use std::thread::Threads;
 use stm_eval::{Evaluated, Job};
 use stm_store::Frozen;
 use stm_terms::NoMemory;
-
-/// How many threads may evaluate blocks.
-pub const MAX_WORKERS: u32 = 64;
 
 /// A job's message, or the job back where memory ran out.
 pub type Answer = Result<Evaluated, (Job, NoMemory)>;

@@ -3,11 +3,11 @@
 //! `evaluate_all` returns what one thread would, by as many threads as it is given. `slot` is the place in which a job is
 //! evaluated, and `all` has threads process the slots of all jobs.
 //!
-//! What a reader has to believe is in `specs/`: `Answers` (what is returned for a job) and `Limits` (how many threads there may
-//! be).
+//! What a reader has to believe is in `specs/Answers`: what is returned for a job.
 #![tactic(auto)]
 
 pub mod all;
 pub mod slot;
 
-pub use all::{Answer, MAX_WORKERS, evaluate_all};
+pub use all::{Answer, evaluate_all};
+pub use stm_terms::limits::MAX_WORKERS;

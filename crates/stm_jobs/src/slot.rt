@@ -1,7 +1,7 @@
 //! The place in which a job is evaluated.
 
 ghost use Rattle.std.specs.Prelude.{◌≡◌, ℕ, ◌<◌, ◌≤◌, [], map, vec_len, vec_capacity, slice_index_or, IfOk, IfErr};
-ghost use Rattle.stm_eval.specs.Limits.{max_levels};
+ghost use Rattle.stm_terms.specs.Limits.{max_levels};
 ghost use Rattle.stm_jobs.specs.Slots.{IsWorked, IsDone, IsReady, todo, slot_of};
 
 use crate::all::Answer;

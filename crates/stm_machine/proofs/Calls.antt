@@ -11,7 +11,8 @@ use Rattle.stm_watch.specs.Pairs.{Pairs, WithoutReads}
 use Rattle.stm_queue.specs.Queue.{has_ticket, with_ticket, without_ticket}
 use Rattle.stm_events.specs.declared.event.What.TheVariants.{Submitted, Cancelled, Labelled}
 use Rattle.stm_events.specs.Labels.{is_label}
-use Rattle.stm_events.specs.SlowDesk.{Waiter, Slow, find_waiter, after, Allows, max_waiting}
+use Rattle.stm_events.specs.SlowDesk.{Waiter, Slow, find_waiter, after, Allows}
+use Rattle.stm_terms.specs.Limits.{max_waiting}
 use Rattle.stm_events.specs.Laws.{AreRising}
 use Rattle.stm_waiting.specs.declared.waiting.Waiting.{Waiting}
 use Rattle.stm_waiting.specs.Entries.{kept_at, lose, AllBelow}

@@ -24,7 +24,8 @@ use Rattle.stm_events.specs.declared.event.What.TheVariants.{Submitted, Installe
 use Rattle.stm_events.specs.declared.staleness.StalenessRule.{StalenessRule}
 use Rattle.stm_events.specs.Refusals.{missing, overflows, submit_refused}
 use Rattle.stm_events.specs.SlowAtomically.{AllowsEach}
-use Rattle.stm_events.specs.SlowDesk.{Waiter, Slow, under, verdict_on, waking, is_blocks, stale_after, after_writes, find_waiter, without_waiter, after, MayInstall, Allows, is_current, max_cells, max_waiting}
+use Rattle.stm_events.specs.SlowDesk.{Waiter, Slow, under, verdict_on, waking, is_blocks, stale_after, after_writes, find_waiter, without_waiter, after, MayInstall, Allows, is_current, max_cells}
+use Rattle.stm_terms.specs.Limits.{max_waiting}
 use Rattle.stm_events.specs.SlowDrain.{after_all}
 use Rattle.stm_events.proofs.Atomically.{MayRun, absent_without, last_found, ending_allowed, after_ending, possible_all}
 use Rattle.stm_events.proofs.Rising.{waiter_marks}

@@ -8,7 +8,8 @@ use Rattle.stm_check.specs.TypedBlock.{Block}
 use Rattle.stm_eval.specs.Messages.{Holds}
 use Rattle.stm_queue.specs.Queue.{Entry, has_ticket}
 use Rattle.stm_events.specs.declared.event.What.{What}
-use Rattle.stm_events.specs.SlowDesk.{Since, Waiter, Slow, under, verdict_on, is_current, is_stale_since, find_waiter, after, Allows, max_waiting}
+use Rattle.stm_events.specs.SlowDesk.{Since, Waiter, Slow, under, verdict_on, is_current, is_stale_since, find_waiter, after, Allows}
+use Rattle.stm_terms.specs.Limits.{max_waiting}
 use Rattle.stm_events.specs.Laws.{AreRising}
 use Rattle.stm_events.proofs.Covered.{covered_waiter}
 use Rattle.stm_events.proofs.Fresh.{still_holds}

@@ -2,7 +2,7 @@
 use Rattle.std.specs.Prelude.{ℕ, ◌<◌, Bool, not, ◌&&◌, nat_eq, is_some, List, [], ◌∷◌, length, None}
 use Rattle.std.specs.List.{list_any}
 use Rattle.stm_queue.specs.Queue.{Entry, has_ticket}
-use Rattle.stm_events.specs.SlowDesk.{max_waiting}
+use Rattle.stm_terms.specs.Limits.{max_waiting}
 use Rattle.stm_watch.specs.Pairs.{is_read}
 use Rattle.stm_waiting.specs.declared.waiting.Waiting.{Waiting}
 use Rattle.stm_waiting.specs.Entries.{held_reads}

@@ -9,7 +9,7 @@ use std::marker::Model;
 use stm_events::staleness::StalenessRule;
 use stm_queue::Pending;
 use stm_store::{Names, Store, Table};
-use stm_terms::NoMemory;
+use stm_terms::{NoMemory, limits};
 use stm_waiting::{TicketSet, WaitingBlocks};
 use stm_watch::Watch;
 
@@ -72,7 +72,7 @@ impl Model for Machine {
 
 impl Machine {
     /// How many blocks may wait.
-    pub const MAX_WAITING: usize = 65_536;
+    pub const MAX_WAITING: usize = limits::MAX_WAITING;
 
     /// A machine with the variables of a table, on which no block waits. The rule is that of the history that it is led through.
     pub fn open(alloc: Global, rule: StalenessRule, table: &Table) -> Result<Machine, NoMemory>

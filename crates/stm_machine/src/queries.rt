@@ -4,7 +4,8 @@ ghost use Rattle.std.specs.Prelude.{◌≡◌, ◌≤◌, nat_lt, true, Some, le
 ghost use Rattle.std.specs.Option.{option_copied};
 ghost use Rattle.stm_queue.specs.Queue.{tickets};
 ghost use Rattle.stm_queue.specs.SortedTickets.{IsRising};
-ghost use Rattle.stm_events.specs.SlowDesk.{Waiter, Slow, is_current, find_waiter, standing, max_waiting};
+ghost use Rattle.stm_events.specs.SlowDesk.{Waiter, Slow, is_current, find_waiter, standing};
+ghost use Rattle.stm_terms.specs.Limits.{max_waiting};
 ghost use Rattle.stm_events.specs.Ready.{next_ready};
 ghost use Rattle.stm_events.specs.SlowSettle.{lowest};
 ghost use Rattle.stm_machine.specs.Machine.{IsAt};

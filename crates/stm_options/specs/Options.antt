@@ -1,8 +1,6 @@
 -- The options of a run.
 use Rattle.std.specs.Prelude.{◌≤◌, ◌<◌}
-use Rattle.stm_eval.specs.Limits.{max_levels}
-use Rattle.stm_events.specs.SlowDesk.{max_events}
-use Rattle.stm_jobs.specs.Limits.{max_workers}
+use Rattle.stm_terms.specs.Limits.{max_levels, max_events, max_workers}
 use Rattle.stm_options.specs.declared.options.Options.{Options}
 
 -- each is in its range

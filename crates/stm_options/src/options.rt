@@ -3,7 +3,7 @@
 ghost use Rattle.std.specs.Prelude.{◌≡◌};
 ghost use Rattle.stm_options.specs.Options.{default_options};
 
-use stm_events::Event;
+use stm_terms::limits;
 
 /// How a run works: how many threads evaluate blocks (1 to 64), how deep the branches of `orElse` are evaluated on threads
 /// of their own (0 to 8), how many events the desk takes (at most 1,048,576), and at how many events a run with a file makes a
@@ -18,13 +18,13 @@ pub struct Options {
 
 impl Options {
     /// The most threads.
-    pub const MAX_WORKERS: u32 = stm_jobs::MAX_WORKERS;
+    pub const MAX_WORKERS: u32 = limits::MAX_WORKERS;
 
     /// The deepest branches.
-    pub const MAX_LEVELS: u32 = stm_eval::MAX_LEVELS;
+    pub const MAX_LEVELS: u32 = limits::MAX_LEVELS;
 
     /// The most events.
-    pub const MAX_EVENTS: u32 = Event::MAX_EVENTS;
+    pub const MAX_EVENTS: u32 = limits::MAX_EVENTS;
 
     /// At how many events a checkpoint is made by default.
     pub const CHECKPOINT_EVERY: u32 = 500_000;

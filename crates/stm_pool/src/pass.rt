@@ -26,7 +26,7 @@ impl<L: Ledger> Model for Pass<L> {
     ghost use Rattle.std.specs.Prelude.{◌≡◌, ◌<◌, true, length};
     ghost use Rattle.std.specs.Coded.{codes};
     ghost use Rattle.stm_terms.specs.TreeEncoding.{act_code};
-    ghost use Rattle.stm_events.specs.SlowDesk.{max_clients};
+    ghost use Rattle.stm_terms.specs.Limits.{max_clients};
     ghost use Rattle.stm_pool.specs.Own.{Known, are_of};
 
     ghost Value = { Known };

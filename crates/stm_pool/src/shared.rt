@@ -1,7 +1,7 @@
 //! A desk that threads share, and how it opens.
 
 ghost use Rattle.std.specs.Prelude.{◌≡◌, ◌<◌, ◌≤◌, ℕ, vec_len, slice_index_or, IfOk};
-ghost use Rattle.stm_events.specs.SlowDesk.{max_events as most_events, max_clients};
+ghost use Rattle.stm_terms.specs.Limits.{max_events as most_events, max_clients};
 ghost use Rattle.stm_pool.specs.Own.{newcomer};
 
 use crate::guarded::Guarded;

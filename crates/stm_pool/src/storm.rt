@@ -1,10 +1,8 @@
 //! A storm: clients and workers in threads of their own, over one desk, and the desk that they leave.
 
 ghost use Rattle.std.specs.Prelude.{◌≡◌, ◌+◌, ◌<◌, ◌≤◌, length, vec_len, IfOk, IfSome};
-ghost use Rattle.stm_eval.specs.Limits.{max_levels};
-ghost use Rattle.stm_events.specs.SlowDesk.{max_events as most_events};
+ghost use Rattle.stm_terms.specs.Limits.{max_levels, max_events as most_events, max_workers};
 ghost use Rattle.stm_pool.specs.Counted.{CountsPasses};
-ghost use Rattle.stm_jobs.specs.Limits.{max_workers};
 ghost use Rattle.stm_script.specs.Limits.{max_sections};
 ghost use Rattle.stm_pool.specs.Storms.{CountsDesk};
 

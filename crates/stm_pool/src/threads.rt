@@ -2,7 +2,7 @@
 
 ghost use Rattle.std.specs.Prelude.{◌<◌, ◌≤◌, IsTrue, vec_len, vec_capacity};
 ghost use Rattle.std.specs.Thread.{IsSync};
-ghost use Rattle.stm_eval.specs.Limits.{max_levels};
+ghost use Rattle.stm_terms.specs.Limits.{max_levels};
 
 use crate::client::{Extra, do_section};
 use crate::pass::Pass;

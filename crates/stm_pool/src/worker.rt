@@ -1,7 +1,7 @@
 //! A worker: it evaluates what is queued until the desk is stopped.
 
 ghost use Rattle.std.specs.Prelude.{◌≡◌, ◌≤◌, Some};
-ghost use Rattle.stm_eval.specs.Limits.{max_levels};
+ghost use Rattle.stm_terms.specs.Limits.{max_levels};
 ghost use Rattle.stm_store.specs.Cells.{Covers};
 ghost use Rattle.stm_pool.specs.Worked.{Worked};
 

@@ -41,7 +41,8 @@ use Rattle.stm_desk.specs.declared.errors.AtomicError.{AtomicError}
 use Rattle.stm_desk.specs.declared.errors.AtomicError.TheVariants as atomic
 use Rattle.stm_events.specs.Laws.{IsWellTyped}
 use Rattle.stm_events.specs.Refusals.{missing, submit_first, submit_refused, declare_first, late_declare_refused, label_first, label_refused, cancel_first, cancel_refused, differing, overtaken_first, install_first, pending_left, blocks_there, overflows, finish_first, finish_refused}
-use Rattle.stm_events.specs.SlowDesk.{Waiter, Slow, under, verdict_on, waking, is_blocks, is_new, is_current, find_waiter, without_waiter, stale_after, max_cells, max_waiting, after, Allows}
+use Rattle.stm_events.specs.SlowDesk.{Waiter, Slow, under, verdict_on, waking, is_blocks, is_new, is_current, find_waiter, without_waiter, stale_after, max_cells, after, Allows}
+use Rattle.stm_terms.specs.Limits.{max_waiting}
 use Rattle.stm_events.specs.SlowSettle.{Order, next_what, has_cells, settle_on, running, Stop, NoRoom, NoCells, stop_on, run_stop, finishes, installs}
 use Rattle.stm_events.specs.SlowDrain.{next_drain}
 use Rattle.stm_events.specs.States.{IsPossible}

@@ -25,7 +25,8 @@ use Rattle.stm_events.proofs.Atomically.{whats_waiting, whats_ending}
 use Rattle.stm_events.proofs.TypedStores.{typed_verdict}
 use Rattle.stm_history_text.specs.Starts.{written_start}
 use Rattle.stm_events.specs.Refusals.{missing, blocks_there, overflows, finish_first}
-use Rattle.stm_events.specs.SlowDesk.{Since, Waiter, Slow, under, verdict_on, waking, is_blocks, is_new, is_current, find_waiter, without_waiter, stale_after, max_cells, max_waiting}
+use Rattle.stm_events.specs.SlowDesk.{Since, Waiter, Slow, under, verdict_on, waking, is_blocks, is_new, is_current, find_waiter, without_waiter, stale_after, max_cells}
+use Rattle.stm_terms.specs.Limits.{max_waiting}
 use Rattle.stm_events.specs.SlowSettle.{Stop, NoRoom, NoCells, finishes, installs}
 use Rattle.stm_desk.specs.declared.errors.AtomicError.{AtomicError}
 use Rattle.stm_desk.specs.Refusals.{submit_refusal, late_declare_refusal, events_needed, atomic_refusal, finish_refusal, cancel_refusal, label_refusal}

@@ -25,7 +25,8 @@ use Rattle.stm_events.specs.declared.errors.LabelError.TheVariants as label
 use Rattle.stm_events.specs.Labels.{is_label}
 use Rattle.stm_events.specs.Laws.{IsWellTyped}
 use Rattle.stm_events.specs.Refusals.{missing, submit_first, declare_first, late_declare_refused, blocks_there, overflows, finish_first, cancel_first, label_first}
-use Rattle.stm_events.specs.SlowDesk.{Waiter, verdict_on, is_new, is_current, find_waiter, without_waiter, stale_after, waking, max_cells, max_waiting, MayFinish}
+use Rattle.stm_events.specs.SlowDesk.{Waiter, verdict_on, is_new, is_current, find_waiter, without_waiter, stale_after, waking, max_cells, MayFinish}
+use Rattle.stm_terms.specs.Limits.{max_waiting}
 use Rattle.stm_events.specs.declared.staleness.StalenessRule.{StalenessRule}
 use Rattle.stm_machine.proofs.Declaring.{may_declare}
 use Rattle.stm_desk.specs.Refusals.{submit_refusal, late_declare_refusal, finish_refusal, cancel_refusal, label_refusal}

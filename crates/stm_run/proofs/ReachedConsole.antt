@@ -10,7 +10,7 @@ use Rattle.stm_queue.specs.Queue.{is_out, marked, recalled}
 use Rattle.stm_store.specs.Naming.{Named}
 use Rattle.stm_store.specs.Tables.{Declared}
 use Rattle.stm_event_lines.specs.WholeBlocks.{CheckedAreWellTyped}
-use Rattle.stm_events.specs.SlowDesk as slow
+use Rattle.stm_terms.specs.Limits as limits
 use Rattle.stm_desk.specs.Refusals.{submit_refusal, late_declare_refusal, atomic_refusal, finish_refusal, cancel_refusal, label_refusal}
 use Rattle.stm_machine.specs.Checkpoints.{max_next}
 use Rattle.stm_desk.specs.DeskView.{DeskView, state_of}
@@ -58,7 +58,7 @@ use Rattle.stm_run.proofs.TextsJudged.{BlockOrTold, compiled}
 
 -- what holds of a console that has taken some lines
 abbrev pub IsReached : Console → Type 0
-IsReached (Declaring table limit) = VariablesFit table × (limit ≤ slow.max_events)
+IsReached (Declaring table limit) = VariablesFit table × (limit ≤ limits.max_events)
 IsReached (Open d) = Stands d.desk d.jobs
 
 pub present_stands : (s : Console) → IsReached s → Stands (present_desk s).desk (present_desk s).jobs
@@ -74,7 +74,7 @@ present_stands (Declaring table limit) h = record {
 present_stands (Open d) h = h
 
 -- ---- declarations
-tvar_text_reached : (table : List Declared) (limit : ℕ) (r : Result Declared Refusal) → VariablesFit table → limit ≤ slow.max_events → ((d : Declared) → r ≡ Ok d → MayBeNext table d) → IsReached (tvar_text_step table limit r).0
+tvar_text_reached : (table : List Declared) (limit : ℕ) (r : Result Declared Refusal) → VariablesFit table → limit ≤ limits.max_events → ((d : Declared) → r ≡ Ok d → MayBeNext table d) → IsReached (tvar_text_step table limit r).0
 tvar_text_reached table limit (Ok d) v low next = (fits_more table d v (next d refl), low)
 tvar_text_reached table limit (Err e) v low next = (v, low)
 
@@ -181,9 +181,9 @@ module _ (blocks : BlockAnswersAreRight) (declarations : DeclarationAnswersAreRi
   lines_reached s h [] = h
   lines_reached s h (line ∷ rest) = lines_reached (state_after s line) (line_reached s h line) rest
 
-  pub start_reached : (max_events : ℕ) → max_events ≤ slow.max_events → IsReached (initial_console max_events)
+  pub start_reached : (max_events : ℕ) → max_events ≤ limits.max_events → IsReached (initial_console max_events)
   unfolding initial_console
   start_reached max_events low = ((omega arith, tt), low)
 
-  pub reached : (max_events : ℕ) → max_events ≤ slow.max_events → (lines : List (List ℕ)) → IsReached (state_after_lines (initial_console max_events) lines)
+  pub reached : (max_events : ℕ) → max_events ≤ limits.max_events → (lines : List (List ℕ)) → IsReached (state_after_lines (initial_console max_events) lines)
   reached max_events low lines = lines_reached (initial_console max_events) (start_reached max_events low) lines

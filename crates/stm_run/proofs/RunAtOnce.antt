@@ -10,7 +10,8 @@ use Rattle.stm_events.specs.declared.event.What.TheVariants.{Submitted, Installe
 use Rattle.stm_events.specs.Laws.{IsWellTyped, SubmitsWellTyped}
 use Rattle.stm_events.specs.Refusals.{missing, overflows}
 use Rattle.stm_events.specs.SlowAtomically.{install_at_once, atomically, AllowsEach}
-use Rattle.stm_events.specs.SlowDesk.{Slow, verdict_on, waking, is_blocks, stale_after, after, max_cells, max_waiting}
+use Rattle.stm_events.specs.SlowDesk.{Slow, verdict_on, waking, is_blocks, stale_after, after, max_cells}
+use Rattle.stm_terms.specs.Limits.{max_waiting}
 use Rattle.stm_events.specs.States.{IsPossible}
 use Rattle.stm_events.proofs.Atomically.{MayRun, whats_waiting, waiting_allowed, whats_ending, ending_allowed}
 use Rattle.stm_machine.specs.Machine.{event}

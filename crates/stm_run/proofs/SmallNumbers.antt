@@ -8,7 +8,7 @@ use Rattle.stm_terms.specs.declared.values.Value.{Value}
 use Rattle.stm_terms.specs.declared.values.Value.TheVariants as value
 use Rattle.stm_terms.specs.declared.verdicts.Verdict.{Verdict}
 use Rattle.stm_terms.specs.Changes.{no_changes}
-use Rattle.stm_terms.specs.Limits.{most_refs}
+use Rattle.stm_terms.specs.Limits.{most_refs, max_events}
 use Rattle.stm_terms.specs.Typing.{type_of, var_ty}
 use Rattle.stm_store.specs.declared.cell.Cell.{Cell}
 use Rattle.stm_store.specs.Cells.{Covers, kinds_of, plains}
@@ -22,7 +22,7 @@ use Rattle.stm_events.specs.declared.event.What.{What}
 use Rattle.stm_events.specs.declared.event.What.TheVariants.{Submitted, Installed, Finished, Cancelled, Declared as DeclaredLate, Labelled}
 use Rattle.stm_events.specs.Labels.{is_label}
 use Rattle.stm_events.specs.Laws.{AreRising}
-use Rattle.stm_events.specs.SlowDesk.{Waiter, Slow, find_waiter, without_waiter, stale_after, becomes_stale, max_cells, MayInstall, MayFinish, MayDeclareLate, Allows, LegalFrom, state_from, max_events, after}
+use Rattle.stm_events.specs.SlowDesk.{Waiter, Slow, find_waiter, without_waiter, stale_after, becomes_stale, max_cells, MayInstall, MayFinish, MayDeclareLate, Allows, LegalFrom, state_from, after}
 use Rattle.stm_events.specs.States.{IsPossible, IsLegalFrom}
 use Rattle.stm_events.proofs.Folds.{legal_split}
 use Rattle.stm_events.proofs.Possible.{possible_from}

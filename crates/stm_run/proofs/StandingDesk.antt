@@ -12,7 +12,8 @@ use Rattle.stm_store.specs.Tables.{Declared, opened}
 use Rattle.stm_events.specs.declared.event.Event.{Event}
 use Rattle.stm_events.specs.declared.event.What.{What}
 use Rattle.stm_events.specs.Laws.{SubmitsWellTyped, SubmittedAreWellTyped}
-use Rattle.stm_events.specs.SlowDesk.{Waiter, Slow, find_waiter, after, Allows, AllowsEvent, state_from, LegalFrom, max_events}
+use Rattle.stm_events.specs.SlowDesk.{Waiter, Slow, find_waiter, after, Allows, AllowsEvent, state_from, LegalFrom}
+use Rattle.stm_terms.specs.Limits.{max_events}
 use Rattle.stm_events.specs.States.{IsPossible, IsTicketOf, observed, IsLegalFrom}
 use Rattle.stm_events.proofs.Alike.{MayBeAlike, alike_from, alike_found, same_current}
 use Rattle.stm_events.proofs.Kept.{ticket_after, variables_stay_covered}

@@ -11,6 +11,7 @@ use Rattle.stm_events.specs.declared.event.What.{What}
 use Rattle.stm_events.specs.declared.event.What.TheVariants.{Submitted, Installed, Finished, Cancelled, Declared as DeclaredLate, Labelled}
 use Rattle.stm_events.specs.Labels.{is_label}
 use Rattle.stm_events.specs.SlowDesk as slow
+use Rattle.stm_terms.specs.Limits as limits
 use Rattle.stm_event_lines.specs.Fits.{Is32Bit, FitNumbers, FitsNames, FitsVerdict}
 use Rattle.stm_history.specs.Judgement.{AreVariables}
 use Rattle.stm_history_text.specs.Starts.{BlocksAreOfText}
@@ -94,7 +95,7 @@ HaveSmallNumbers (e ∷ es) = AreNumbersSmall e.what × HaveSmallNumbers es
 -- whatever lines came before
 abbrev pub NumbersAreSmall : Type 0
 NumbersAreSmall =
-    (max_events : ℕ) → max_events ≤ slow.max_events → (before : List (List ℕ))
+    (max_events : ℕ) → max_events ≤ limits.max_events → (before : List (List ℕ))
     → HaveSmallNumbers (present_desk (state_after_lines (initial_console max_events) before)).desk.history
 
 -- ---- their lines
@@ -120,7 +121,7 @@ EventsFitNames s (e ∷ es) = FitsNames s.names e × EventsFitNames (slow.after 
 -- Whatever lines came before, each event of the desk can be in a line of a history, if the values of its verdict are in range.
 abbrev pub EventsFitLines : Type 0
 EventsFitLines =
-    (max_events : ℕ) → max_events ≤ slow.max_events → (before : List (List ℕ))
+    (max_events : ℕ) → max_events ≤ limits.max_events → (before : List (List ℕ))
     → AreVerdictsInRange (present_desk (state_after_lines (initial_console max_events) before)).desk.history
     → EventsFitNames (start_state (present_desk (state_after_lines (initial_console max_events) before)).desk)
     (present_desk (state_after_lines (initial_console max_events) before)).desk.history

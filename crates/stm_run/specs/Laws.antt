@@ -4,6 +4,7 @@ use Rattle.std.specs.Prelude.{◌≡◌, ◌≢◌, ◌≤◌, ℕ, List, [], �
 use Rattle.stm_queue.specs.Queue.{Entry}
 use Rattle.stm_queue.specs.SortedTickets.{IsRising}
 use Rattle.stm_events.specs.SlowDesk as slow
+use Rattle.stm_terms.specs.Limits as limits
 use Rattle.stm_desk.specs.DeskView.{state_of}
 use Rattle.stm_run.specs.declared.console.Console.{Console}
 use Rattle.stm_run.specs.Console.{initial_console, answer_to, state_after}
@@ -24,7 +25,7 @@ state_after_lines s (line ∷ rest) = state_after_lines (state_after s line) res
 -- comment is a text that ends with a line feed
 abbrev pub EachLineIsAnswered : Type 0
 EachLineIsAnswered =
-    (max_events : ℕ) → max_events ≤ slow.max_events → (before : List (List ℕ)) (line : List ℕ) → line_class line ≢ Silent
+    (max_events : ℕ) → max_events ≤ limits.max_events → (before : List (List ℕ)) (line : List ℕ) → line_class line ≢ Silent
     → EndsALine (answer_to (state_after_lines (initial_console max_events) before) line)
 
 -- what the slow desk makes of the events after some lines
@@ -44,7 +45,7 @@ HasVerdict (slow.Current v) = IsSome v
 -- so `show` has a verdict to tell for each waiting block that isn't new, whatever lines came before
 abbrev pub VerdictsAreShown : Type 0
 VerdictsAreShown =
-    (max_events : ℕ) → max_events ≤ slow.max_events → (before : List (List ℕ)) (i : ℕ) (w : slow.Waiter)
+    (max_events : ℕ) → max_events ≤ limits.max_events → (before : List (List ℕ)) (i : ℕ) (w : slow.Waiter)
     → slice_get (desk_after_lines max_events before).waiters i ≡ Some w
     → HasVerdict (slow.standing (desk_after_lines max_events before).store w)
 
@@ -52,7 +53,7 @@ VerdictsAreShown =
 -- stale blocks in ascending order, each once, and no other
 abbrev pub QueueIsOfDueTickets : Type 0
 QueueIsOfDueTickets =
-    (max_events : ℕ) → max_events ≤ slow.max_events → (before : List (List ℕ))
+    (max_events : ℕ) → max_events ≤ limits.max_events → (before : List (List ℕ))
     → (pending_after_lines max_events before
     ≡ queue_for (tickets_out (pending_after_lines max_events before)) (desk_after_lines max_events before).waiters)
     × IsRising (due_tickets (desk_after_lines max_events before).waiters)

@@ -2,7 +2,7 @@
 -- `checkpoint` are left aside, and so is the room that a history has for events.
 use Rattle.std.specs.Prelude.{◌≡◌, ◌⊎◌, ⊤, ℕ, ◌≤◌, Bool, true, false, List, [], ◌∷◌, ◌++◌, Option, Some, None, codes}
 use Rattle.stm_events.specs.Labels.{label_of}
-use Rattle.stm_events.specs.SlowDesk as slow
+use Rattle.stm_terms.specs.Limits as limits
 use Rattle.stm_events.specs.States.{observed}
 use Rattle.stm_desk.specs.DeskView.{state_of, labels_of}
 use Rattle.stm_desk.specs.Reasons.{reason_of}
@@ -76,14 +76,14 @@ pub record AnswersTheSame (s s' : Console) (line : List ℕ) : Type 0 where
 pub record CheckpointsAreUnseenByCommands : Type 0 where
   -- a console looks like the one that it is after a checkpoint, unless that is refused
   pub checkpoint :
-      (max_events : ℕ) → max_events ≤ slow.max_events → (before : List (List ℕ))
+      (max_events : ℕ) → max_events ≤ limits.max_events → (before : List (List ℕ))
       → is_open (state_after_lines (initial_console max_events) before) ≡ true
       → are_tickets_full (present_desk (state_after_lines (initial_console max_events) before)) ≡ false
       → LookAlike (state_after_lines (initial_console max_events) before)
       (with_checkpoint (state_after_lines (initial_console max_events) before))
   -- consoles that look alike answer each line alike, unless it is of the history or one of them has no room for its events
   pub line :
-      (max_events : ℕ) → max_events ≤ slow.max_events → (before before' : List (List ℕ)) (line : List ℕ)
+      (max_events : ℕ) → max_events ≤ limits.max_events → (before before' : List (List ℕ)) (line : List ℕ)
       → LookAlike (state_after_lines (initial_console max_events) before) (state_after_lines (initial_console max_events) before')
       → line_is_of_history line ≡ false
       → ¬ TellsFull (answer_to (state_after_lines (initial_console max_events) before) line)
@@ -91,6 +91,6 @@ pub record CheckpointsAreUnseenByCommands : Type 0 where
       → AnswersTheSame (state_after_lines (initial_console max_events) before) (state_after_lines (initial_console max_events) before') line
   -- so a run that makes checkpoints by itself, whichever of them can't be made, answers as one that makes none
   pub automatic :
-      (max_events : ℕ) → max_events ≤ slow.max_events → (every : ℕ) (turns : List (Turn (Unit {0})))
+      (max_events : ℕ) → max_events ≤ limits.max_events → (every : ℕ) (turns : List (Turn (Unit {0})))
       → HaveRoom (initial_console max_events) (turn_lines turns)
       → answers_by every (initial_console max_events) turns ≡ answers_to (initial_console max_events) (turn_lines turns)

@@ -1,7 +1,7 @@
 //! How many events a desk takes.
 
 ghost use Rattle.std.specs.Prelude.{◌≡◌, ◌≤◌};
-ghost use Rattle.stm_events.specs.SlowDesk.{max_events};
+ghost use Rattle.stm_terms.specs.Limits.{max_events};
 
 use std::marker::Model;
 
@@ -13,7 +13,7 @@ pub struct EventLimit {
 
 impl Model for EventLimit {
     ghost use Rattle.std.specs.Prelude.{ℕ, ◌≤◌};
-    ghost use Rattle.stm_events.specs.SlowDesk.{max_events};
+    ghost use Rattle.stm_terms.specs.Limits.{max_events};
 
     ghost Value = { ℕ };
 

@@ -5,7 +5,7 @@
 //! (what an action does), `ReadSet` (what it reads), `Verdict` (what a block does on a store) and `Typing` (the types of
 //! expressions and actions, and when a block's view is well typed). Beside it stand `ParsedAst` (the trees that a text writes,
 //! with names and places), `ParsedBlock` (what callers see of a parsed block: such a tree with its text), `Names` (which words
-//! are names), `Limits` (how long and how deep), `Texts` (what is printed of types, values and verdicts) and `UnlessNoMemory`
+//! are names), `Limits` (how long, how deep and how many), `Texts` (what is printed of types, values and verdicts) and `UnlessNoMemory`
 //! (when a call, of any crate, answers as its definition does).
 //!
 //! The trees of the code are those of `action` and `expr`, and as parsed those of `raw`. `raw_block` has the parsed block, which
@@ -16,6 +16,7 @@ pub mod action;
 pub mod eval;
 pub mod expr;
 pub mod kinds;
+pub mod limits;
 pub mod lists;
 pub mod naming;
 pub mod raw;

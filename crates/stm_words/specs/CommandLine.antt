@@ -11,9 +11,7 @@ use Rattle.clap.specs.declared.builder.action.ArgAction.TheVariants.{SetTrue}
 use Rattle.clap.specs.declared.builder.value_parser.ValueParser.TheVariants.{NonEmptyString, Signed}
 use Rattle.clap.specs.declared.error.kind.ErrorKind.{ErrorKind}
 use Rattle.clap.specs.declared.error.kind.ErrorKind.TheVariants.{DisplayHelp, DisplayVersion, InvalidValue, MissingRequiredArgument, UnknownArgument}
-use Rattle.stm_eval.specs.Limits.{max_levels}
-use Rattle.stm_events.specs.SlowDesk.{max_events}
-use Rattle.stm_jobs.specs.Limits.{max_workers}
+use Rattle.stm_terms.specs.Limits.{max_levels, max_events, max_workers}
 use Rattle.stm_words.specs.declared.command_line.Request.{Request}
 use Rattle.stm_words.specs.declared.command_line.Request.TheVariants.{Run, RunOn, Storm, Explore, Check, CheckWhy}
 use Rattle.stm_journal.specs.declared.sync_mode.SyncMode.{SyncMode}

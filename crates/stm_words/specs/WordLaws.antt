@@ -1,8 +1,6 @@
 -- Which words ask for a run, a run on a file, a storm, a check or the version, and what they say.
 use Rattle.std.specs.Prelude.{◌≡◌, ◌≢◌, ◌≤◌, ◌<◌, ◌^◌, ℕ, List, [], ◌∷◌, ◌++◌, codes, decimal, IsTrue}
-use Rattle.stm_eval.specs.Limits.{max_levels}
-use Rattle.stm_events.specs.SlowDesk as slow
-use Rattle.stm_jobs.specs.Limits.{max_workers}
+use Rattle.stm_terms.specs.Limits as limits
 use Rattle.stm_words.specs.declared.command_line.Request.TheVariants.{Run, RunOn, Storm, Check, CheckWhy}
 use Rattle.stm_journal.specs.declared.sync_mode.SyncMode.{SyncMode}
 use Rattle.stm_journal.specs.declared.sync_mode.SyncMode.TheVariants.{Full, Append, Never}
@@ -78,16 +76,16 @@ run_with name option n = name ∷ codes "run" ∷ (option ++ decimal n) ∷ []
 -- a number in an option's range is taken, and is that of the run
 abbrev pub NumbersAreTaken : Type 0
 NumbersAreTaken = (name : List ℕ) (n : ℕ)
-    → (1 ≤ n → n ≤ max_workers → IsTaken (run_with name (codes "--workers=") n) (record default_options { workers = n }))
-    × (n ≤ max_levels → IsTaken (run_with name (codes "--levels=") n) (record default_options { levels = n }))
-    × (n ≤ slow.max_events → IsTaken (run_with name (codes "--max-events=") n) (record default_options { max_events = n }))
+    → (1 ≤ n → n ≤ limits.max_workers → IsTaken (run_with name (codes "--workers=") n) (record default_options { workers = n }))
+    × (n ≤ limits.max_levels → IsTaken (run_with name (codes "--levels=") n) (record default_options { levels = n }))
+    × (n ≤ limits.max_events → IsTaken (run_with name (codes "--max-events=") n) (record default_options { max_events = n }))
 
 -- any other of 64 bits is refused
 abbrev pub OthersAreRefused : Type 0
 OthersAreRefused = (name : List ℕ) (n : ℕ) → n < 2 ^ 64
-    → ((1 ≤ n → n ≤ max_workers → ⊥) → IsTrue (has_mistake (run_with name (codes "--workers=") n)))
-    × (max_levels < n → IsTrue (has_mistake (run_with name (codes "--levels=") n)))
-    × (slow.max_events < n → IsTrue (has_mistake (run_with name (codes "--max-events=") n)))
+    → ((1 ≤ n → n ≤ limits.max_workers → ⊥) → IsTrue (has_mistake (run_with name (codes "--workers=") n)))
+    × (limits.max_levels < n → IsTrue (has_mistake (run_with name (codes "--levels=") n)))
+    × (limits.max_events < n → IsTrue (has_mistake (run_with name (codes "--max-events=") n)))
 
 -- an option twice is refused, whatever follows it
 abbrev pub run_twice : List ℕ → List ℕ → List ℕ → List ℕ → List (List ℕ)
@@ -160,13 +158,13 @@ run_checkpointed name file n =
 
 -- a number in the option's range is taken, and is that of the run
 abbrev pub CheckpointsAreTaken : Type 0
-CheckpointsAreTaken = (name : List ℕ) (first : ℕ) (rest : List ℕ) (n : ℕ) → 1 ≤ n → n ≤ slow.max_events
+CheckpointsAreTaken = (name : List ℕ) (first : ℕ) (rest : List ℕ) (n : ℕ) → 1 ≤ n → n ≤ limits.max_events
     → (answers_of (run_checkpointed name (first ∷ rest) n) ≡ [])
     × (request_of (run_checkpointed name (first ∷ rest) n) ≡ RunOn (record default_options { checkpoint_every = n }) Full (first ∷ rest))
 
 -- any other of 64 bits is refused
 abbrev pub OtherCheckpointsAreRefused : Type 0
-OtherCheckpointsAreRefused = (name file : List ℕ) (n : ℕ) → n < 2 ^ 64 → (1 ≤ n → n ≤ slow.max_events → ⊥)
+OtherCheckpointsAreRefused = (name file : List ℕ) (n : ℕ) → n < 2 ^ 64 → (1 ≤ n → n ≤ limits.max_events → ⊥)
     → IsTrue (has_mistake (run_checkpointed name file n))
 
 -- and so is any without a journal

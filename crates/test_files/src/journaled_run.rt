@@ -1,7 +1,7 @@
 //! Runs that keep their history, over devices in memory.
 
 ghost use Rattle.std.specs.Prelude.{◌≤◌};
-ghost use Rattle.stm_events.specs.SlowDesk.{max_events};
+ghost use Rattle.stm_terms.specs.Limits.{max_events};
 
 use std::alloc::Global;
 use std::random::RandomSource;

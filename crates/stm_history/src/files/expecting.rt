@@ -7,7 +7,8 @@ ghost use Rattle.stm_events.specs.declared.event.Event.{Event as AnyEvent};
 ghost use Rattle.stm_events.specs.declared.event.What.TheVariants.{Submitted, Installed, Finished, Cancelled, Declared as DeclaredLate, Labelled};
 ghost use Rattle.stm_events.specs.Refusals.{submit_refused, finish_refused, late_declare_refused};
 ghost use Rattle.stm_events.specs.Labels.{is_label};
-ghost use Rattle.stm_events.specs.SlowDesk.{Slow, max_clients};
+ghost use Rattle.stm_events.specs.SlowDesk.{Slow};
+ghost use Rattle.stm_terms.specs.Limits.{max_clients};
 ghost use Rattle.stm_terms.specs.Names.{is_name_text};
 ghost use Rattle.stm_terms.specs.declared.kinds.Ty.{Ty as AnyTy};
 ghost use Rattle.stm_terms.specs.declared.values.Value.{Value as OneValue};
@@ -21,7 +22,7 @@ ghost use Rattle.stm_history.specs.Following.{Follows};
 ghost use Rattle.stm_history_text.specs.Starts.{Start};
 
 use crate::files::explanation::CallRefusal;
-use crate::files::replayer::{MAX_EVENTS, Replayer};
+use crate::files::replayer::Replayer;
 use stm_check::SharedBlock;
 use stm_eval::Evaluated;
 use stm_events::errors::{
@@ -33,6 +34,7 @@ use stm_machine::finish::Plan;
 use stm_machine::machine::Machine;
 use stm_terms::NoMemory;
 use stm_terms::kinds::Ty;
+use stm_terms::limits::MAX_EVENTS;
 use stm_terms::values::Value;
 
 /// What is due in place of an event.

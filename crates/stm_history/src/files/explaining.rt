@@ -4,7 +4,7 @@ ghost use Rattle.std.specs.Prelude.{◌≡◌, ◌↔◌, ◌+◌, ◌++◌, ◌
 ghost use Rattle.stm_store.specs.Cells.{plains, IsStore};
 ghost use Rattle.stm_store.specs.Naming.{Named};
 ghost use Rattle.stm_events.specs.declared.event.Event.{Event as AnyEvent};
-ghost use Rattle.stm_events.specs.SlowDesk.{max_clients};
+ghost use Rattle.stm_terms.specs.Limits.{max_clients};
 ghost use Rattle.stm_terms.specs.declared.verdicts.Verdict.TheVariants.{Throws};
 ghost use Rattle.stm_machine.specs.Machine.{event};
 ghost use Rattle.stm_history.specs.Checking.{CheckerState, at_header, at_variables, at_cells, at_blocks, at_events};

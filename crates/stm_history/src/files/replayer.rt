@@ -11,9 +11,6 @@ use stm_machine::machine::Machine;
 use stm_store::{Frozen, Names, Table};
 use stm_terms::NoMemory;
 
-/// The most events of a history.
-pub(crate) const MAX_EVENTS: u32 = 1_048_576;
-
 /// The machine that the events of a history so far lead to, how many they are, and an unchanging copy of the present store, if
 /// one was made after the last finish; the events themselves, if they are kept.
 #[derive(Drop)]

@@ -13,7 +13,7 @@ ghost use Rattle.stm_history.specs.Following.{IsForbidden, Follows};
 ghost use Rattle.stm_history.specs.Judgement.{IsIllegalFrom};
 ghost use Rattle.stm_history_text.specs.Starts.{Start};
 
-use crate::files::replayer::{MAX_EVENTS, Replayer};
+use crate::files::replayer::Replayer;
 use stm_check::SharedBlock;
 use stm_eval::Evaluated;
 use stm_events::errors::{
@@ -27,6 +27,7 @@ use stm_machine::finish::Plan;
 use stm_machine::machine::Machine;
 use stm_store::Frozen;
 use stm_terms::kinds::Ty;
+use stm_terms::limits::MAX_EVENTS;
 use stm_terms::values::Value;
 use stm_terms::verdicts::Verdict;
 use stm_terms::{NoMemory, is_name};

@@ -4,7 +4,7 @@ use Rattle.stm_store.specs.Cells.{plains}
 use Rattle.stm_terms.specs.UnlessNoMemory.{RefusedAs}
 use Rattle.stm_events.specs.declared.errors.SubmitError.TheVariants.{NoMemory}
 use Rattle.stm_events.specs.Refusals.{missing}
-use Rattle.stm_events.specs.SlowDesk.{max_waiting}
+use Rattle.stm_terms.specs.Limits.{max_waiting}
 use Rattle.stm_desk.specs.DeskView.{DeskView, state_of, is_full}
 use Rattle.stm_desk.specs.Limit.{limited_submit}
 use Rattle.stm_desk.specs.Refusals.{submit_refusal}

@@ -1,5 +1,5 @@
 use Rattle.std.proofs.Common.{◌∙◌, ◌≤◌, sym, subst, ℕ}
-use Rattle.stm_events.specs.SlowDesk.{max_waiting}
+use Rattle.stm_terms.specs.Limits.{max_waiting}
 use Rattle.stm_machine.specs.Machine.{Parts, IsAt}
 use Rattle.stm_machine.proofs.Due.{length_due}
 use Rattle.stm_machine.proofs.States.{few_at}

@@ -1,6 +1,6 @@
 use Rattle.std.proofs.Common.{refl, sym, ap, ◌∙◌}
 use Rattle.std.specs.Prelude.{nat_le}
-use Rattle.stm_events.specs.SlowDesk.{max_events}
+use Rattle.stm_terms.specs.Limits.{max_events}
 use Rattle.stm_history.proofs.DueEvents.{expect_due, has_room}
 use Rattle.stm_history.proofs.AllowedEvents.{ticket_left}
 use Rattle.stm_history_text.specs.Starts.{state_after_start}

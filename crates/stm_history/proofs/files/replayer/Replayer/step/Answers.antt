@@ -3,7 +3,7 @@ use Rattle.std.specs.Prelude.{IfSome}
 use Rattle.std.specs.Global.{Vec}
 use Rattle.std.proofs.lemmas.Grind.{common_steps}
 use Rattle.stm_events.specs.declared.event.Event.{Event}
-use Rattle.stm_events.specs.SlowDesk.{max_clients, max_events}
+use Rattle.stm_terms.specs.Limits.{max_clients, max_events}
 use Rattle.stm_history_text.specs.Starts.{state_after_start}
 use Rattle.stm_history.proofs.AllowedEvents.{allowed, client_low, before_full, ticket_left, follows_next}
 use Rattle.stm_history.proofs.files.replayer.Replayer.step.Goals as goal
