@@ -9,7 +9,7 @@ import transcript
 ROOT = pathlib.Path(__file__).resolve().parent.parent
 HELP_TEXTS = ROOT / "docs" / "help"
 HELP_NAMES = ("stmdesk", "run", "storm", "explore", "check")
-VERSION_FILE = ROOT / "crates" / "stm_words" / "src" / "version.rt"
+VERSION_FILE = ROOT / "crates" / "stm_command_line" / "src" / "version.rt"
 
 ARGUMENTS = {  # of each command of the console
     **{"tvar": "NAME : TYPE = INIT", "declare": "NAME : TYPE = INIT", "try": "BLOCK", "looks": "BLOCK", "submit": "BLOCK"},

@@ -57,7 +57,7 @@ class Names(OnProgram):
 @needs_process("no desk: the package")
 class Package(OnProgram):
     def test_its_version_is_the_program_s(self):
-        source = REPOSITORY / "crates" / "stm_words" / "src" / "version.rt"
+        source = REPOSITORY / "crates" / "stm_command_line" / "src" / "version.rt"
         if not source.exists():
             self.skipTest("the program has no version here")
         found = re.search(r'VERSION: &str = "(.*)"', source.read_text())

@@ -17,10 +17,10 @@ use Rattle.stm_storm.specs.declared.storming.StormFault.TheVariants as storm_fau
 use Rattle.stm_exploration.specs.ExploreStatus.{explore_status}
 use Rattle.stm_exploration.specs.declared.exploring.ExploreFault.{ExploreFault}
 use Rattle.stm_exploration.specs.declared.exploring.ExploreFault.TheVariants as explore_fault
-use Rattle.stm_words.specs.CommandLine.{answers_of, are_mistakes, is_help, is_mistake, is_version, request_of, version_line}
-use Rattle.stm_words.specs.declared.command_line.Request.{Request}
-use Rattle.stm_words.specs.declared.command_line.Request.TheVariants.{Run, RunOn, Storm, Explore, Check, CheckWhy}
-use Rattle.stm_words.proofs.WordAnswers.{help_kind, mistake_kind, memory_kind, version_kind}
+use Rattle.stm_command_line.specs.CommandLine.{answers_of, are_mistakes, is_help, is_mistake, is_version, request_of, version_line}
+use Rattle.stm_command_line.specs.declared.command_line.Request.{Request}
+use Rattle.stm_command_line.specs.declared.command_line.Request.TheVariants.{Run, RunOn, Storm, Explore, Check, CheckWhy}
+use Rattle.stm_command_line.proofs.WordAnswers.{help_kind, mistake_kind, memory_kind, version_kind}
 use Rattle.stm_console.specs.Checking.{BeginsFindingText}
 use Rattle.stm_console.specs.ExitStatus.{IsFailure, storm_status}
 use Rattle.stm_console.specs.Program.{Asked, Do, Help, Mistake, Several, Version, asked_by, asked_of, ProgramDoes, ReadsNothing, Streams, Writes, WritesNothing, WritesPartOf}

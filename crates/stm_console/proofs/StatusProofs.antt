@@ -4,10 +4,10 @@ use Rattle.std.specs.Prelude.{◌⊎◌, IfSome}
 use Rattle.std.proofs.lemmas.List.{append-nil}
 use Rattle.clap.specs.Words.{Kinds}
 use Rattle.stm_terms.specs.Texts.{IsPrefixOf}
-use Rattle.stm_words.specs.CommandLine.{answers_of, are_mistakes, request_of}
-use Rattle.stm_words.specs.declared.command_line.Request.{Request}
-use Rattle.stm_words.specs.declared.command_line.Request.TheVariants.{Run, RunOn, Storm, Explore, Check, CheckWhy}
-use Rattle.stm_words.proofs.WordAnswers.{help_alone, version_alone}
+use Rattle.stm_command_line.specs.CommandLine.{answers_of, are_mistakes, request_of}
+use Rattle.stm_command_line.specs.declared.command_line.Request.{Request}
+use Rattle.stm_command_line.specs.declared.command_line.Request.TheVariants.{Run, RunOn, Storm, Explore, Check, CheckWhy}
+use Rattle.stm_command_line.proofs.WordAnswers.{help_alone, version_alone}
 use Rattle.stm_console.specs.Checking.{BeginsFindingText, IsFinding, finding_text}
 use Rattle.stm_console.specs.ExitStatus.{IsFailure, finding_status}
 use Rattle.stm_console.specs.Program.{Asked, Do, Help, Mistake, Several, Version, asked_of, ProgramDoes, Streams, Writes}

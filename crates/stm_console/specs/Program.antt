@@ -14,9 +14,9 @@ use Rattle.stm_options.specs.declared.options.Options.{Options}
 use Rattle.stm_durable_run.specs.DurableRun.{resumed_console}
 use Rattle.stm_storm.specs.StormText.{IsFailedStormText, IsStormText}
 use Rattle.stm_exploration.specs.ExploreEnd.{WritesRight}
-use Rattle.stm_words.specs.CommandLine.{answers_of, are_mistakes, is_help, is_version, request_of, version_line}
-use Rattle.stm_words.specs.declared.command_line.Request.{Request}
-use Rattle.stm_words.specs.declared.command_line.Request.TheVariants.{Run, RunOn, Storm, Explore, Check, CheckWhy}
+use Rattle.stm_command_line.specs.CommandLine.{answers_of, are_mistakes, is_help, is_version, request_of, version_line}
+use Rattle.stm_command_line.specs.declared.command_line.Request.{Request}
+use Rattle.stm_command_line.specs.declared.command_line.Request.TheVariants.{Run, RunOn, Storm, Explore, Check, CheckWhy}
 use Rattle.stm_console.specs.Checking.{BeginsFindingText, IsFinding, finding_text}
 use Rattle.stm_console.specs.ExitStatus.{IsFailure, finding_status}
 use Rattle.stm_console.specs.declared.checking.Finding.{Finding}

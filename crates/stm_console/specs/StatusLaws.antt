@@ -11,9 +11,9 @@ use Rattle.stm_storm.specs.StormText.{IsStormText}
 use Rattle.stm_exploration.specs.ExploreEnd.{WritesRight}
 use Rattle.stm_options.specs.declared.explore_options.ExploreOptions.{ExploreOptions}
 use Rattle.stm_options.specs.declared.options.Options.{Options}
-use Rattle.stm_words.specs.CommandLine.{answers_of, asks_for_help, asks_for_version, has_mistake, request_of, version_line}
-use Rattle.stm_words.specs.declared.command_line.Request.{Request}
-use Rattle.stm_words.specs.declared.command_line.Request.TheVariants.{Run, RunOn, Storm, Explore, Check, CheckWhy}
+use Rattle.stm_command_line.specs.CommandLine.{answers_of, asks_for_help, asks_for_version, has_mistake, request_of, version_line}
+use Rattle.stm_command_line.specs.declared.command_line.Request.{Request}
+use Rattle.stm_command_line.specs.declared.command_line.Request.TheVariants.{Run, RunOn, Storm, Explore, Check, CheckWhy}
 use Rattle.stm_console.specs.Checking.{BeginsFindingText}
 use Rattle.stm_console.specs.Journal.{HasNoHistory}
 use Rattle.stm_console.specs.Program.{Asked, Do, Help, Mistake, Version, asked_by, OverLines, ProgramDoes, ReadsNothing, Streams, Writes, WritesNothing, WritesPartOf}

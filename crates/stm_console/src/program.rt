@@ -10,7 +10,7 @@ ghost use Rattle.stm_console.specs.declared.status.TheConstants.{DONE, FAILED, N
 ghost use Rattle.stm_exploration.specs.ExploreStatus.{explore_status};
 ghost use Rattle.stm_lines.specs.RunStatus.{status_of};
 ghost use Rattle.stm_options.specs.Options.{AreRunOptions};
-ghost use Rattle.stm_words.specs.CommandLine.{is_mistake, version_line, AreExploreOptions, HasOptionsInRange};
+ghost use Rattle.stm_command_line.specs.CommandLine.{is_mistake, version_line, AreExploreOptions, HasOptionsInRange};
 
 use crate::checking::check_with;
 use crate::files::JournalFiles;
@@ -25,6 +25,8 @@ use std::io::{Read, Write};
 use std::random::RandomSource;
 use std::sync::Wait;
 use std::thread::Threads;
+use stm_command_line::version::version_line;
+use stm_command_line::{Request, read_words};
 use stm_exploration::exploring::explore_with;
 use stm_exploration::{ExploreFault, Warning};
 use stm_lines::RunFault;
@@ -34,8 +36,6 @@ use stm_run::run;
 use stm_script::ScriptFault;
 use stm_store::Seed;
 use stm_storm::{StormFault, storm};
-use stm_words::version::version_line;
-use stm_words::{Request, read_words};
 
 /// Reports a failure on `errors`, and returns its status.
 fn report<E: Write>(fault: RunFault, errors: &mut E) -> u8

@@ -24,7 +24,7 @@ ghost use Rattle.std.specs.Prelude.{◌≡◌, ◌≢◌, ◌<◌, ◌≤◌, �
 ghost use Rattle.stm_lines.specs.Lines.{whole_lines_of, NoLineFeed};
 ghost use Rattle.stm_run.specs.Console.{answers_to};
 ghost use Rattle.stm_run.specs.Laws.{state_after_lines};
-ghost use Rattle.stm_words.specs.declared.version.TheConstants.{VERSION};
+ghost use Rattle.stm_command_line.specs.declared.version.TheConstants.{VERSION};
 ghost use Rattle.stm_embed.specs.Checking.{IsJudgement, found_status, numbers_of};
 ghost use Rattle.stm_embed.specs.Exploring.{IsExplored, ended_status, explore_options, invalid_line};
 ghost use Rattle.stm_embed.specs.Feeding.{HasOnly, IsNew, console_of, unread_answers};
