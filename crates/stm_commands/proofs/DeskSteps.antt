@@ -41,9 +41,9 @@ use Rattle.stm_commands.specs.Atomically.{ran_text, atomically_block_step, atomi
 use Rattle.stm_commands.specs.Blocks.{ticket_line, submit_block_step}
 use Rattle.stm_commands.specs.Declaring.{declared_line, declare_variable_step, declare_text_step, declare_step}
 use Rattle.stm_commands.specs.Endings.{finished_line, finish_verdict_step, finish_waiter_step, finish_ticket_step, cancelled_line, cancel_ticket_step, why_text, run_text, run_desk_step}
-use Rattle.stm_blocks.specs.declared.refusal.Refusal.{Refusal}
-use Rattle.stm_blocks.specs.CompiledBlock.{compiled_block}
-use Rattle.stm_blocks.specs.DeclaredVariable.{late_variable_of}
+use Rattle.stm_source.specs.declared.refusal.Refusal.{Refusal}
+use Rattle.stm_source.specs.CompiledBlock.{compiled_block}
+use Rattle.stm_source.specs.DeclaredVariable.{late_variable_of}
 use Rattle.stm_commands.specs.declared.evaluation.Progress.{Progress}
 use Rattle.stm_commands.specs.Evaluation.{DeliveredSoFar, evaluated, evaluation_text, eval_desk_step}
 use Rattle.stm_commands.specs.Jobs.{max_jobs, jobs_of, taken, jobs_line, with_jobs, take_jobs_step, delivery_refusal, delivery_step, deliver_job_step, queued_line, handed_back, handback_ticket_step}

@@ -18,9 +18,9 @@ use Rattle.stm_event_lines.proofs.CheckedBlocks.{checked_blocks_stay}
 use Rattle.stm_events.specs.States.{IsLegalFrom}
 use Rattle.stm_machine.specs.Checkpoints.{MayStart}
 use Rattle.stm_desk.specs.DeskView.{DeskView, start_state, state_of}
-use Rattle.stm_blocks.specs.declared.refusal.Refusal.{Refusal}
-use Rattle.stm_blocks.specs.CompiledBlock.{block_or_refusal, compiled_block}
-use Rattle.stm_blocks.specs.OutOfMemory.{IsOutOfMemory}
+use Rattle.stm_source.specs.declared.refusal.Refusal.{Refusal}
+use Rattle.stm_source.specs.CompiledBlock.{block_or_refusal, compiled_block}
+use Rattle.stm_source.specs.OutOfMemory.{IsOutOfMemory}
 use Rattle.stm_commands.specs.BlockCache.{IsBlockOf, IsPrepared, ArePrepared}
 use Rattle.stm_commands.specs.OpenInvariant.{NamesFollow}
 use Rattle.stm_commands.proofs.LegalDesks.{desk_possible}

@@ -8,8 +8,8 @@ use Rattle.stm_desk.specs.declared.errors.AtomicError.{AtomicError}
 use Rattle.stm_desk.specs.DeskView.{DeskView, state_of}
 use Rattle.stm_desk.specs.Refusals.{atomic_refusal}
 use Rattle.stm_desk.specs.Settling.{with_whats}
-use Rattle.stm_blocks.specs.declared.refusal.Refusal.{Refusal}
-use Rattle.stm_blocks.specs.CompiledBlock.{compiled_block}
+use Rattle.stm_source.specs.declared.refusal.Refusal.{Refusal}
+use Rattle.stm_source.specs.CompiledBlock.{compiled_block}
 use Rattle.stm_commands.specs.Endings.{finished_line}
 use Rattle.stm_commands.specs.OpenDesk.{OpenDesk, on_desk, known}
 use Rattle.stm_commands.specs.Refusals.{refusal_text, atomic_error_text}

@@ -5,7 +5,7 @@ use Rattle.stm_terms.specs.declared.values.Value.{Value}
 use Rattle.stm_check.specs.TypedBlock.{Block}
 use Rattle.stm_store.specs.Cells.{Covers}
 use Rattle.stm_store.specs.Naming.{Named, named_uses}
-use Rattle.stm_blocks.specs.CompiledBlock.{compiled_block}
+use Rattle.stm_source.specs.CompiledBlock.{compiled_block}
 
 -- the block is that of the text over these names, and each store that has the named variables has those that it names
 abbrev pub IsBlockOf : List Named → List ℕ → Block → Type 0

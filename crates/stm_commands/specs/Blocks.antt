@@ -11,8 +11,8 @@ use Rattle.stm_events.specs.declared.event.What.TheVariants.{Submitted}
 use Rattle.stm_events.specs.SlowDesk.{under, verdict_on}
 use Rattle.stm_desk.specs.DeskView.{DeskView, state_of, with_event}
 use Rattle.stm_desk.specs.Refusals.{submit_refusal}
-use Rattle.stm_blocks.specs.declared.refusal.Refusal.{Refusal}
-use Rattle.stm_blocks.specs.CompiledBlock.{compiled_block}
+use Rattle.stm_source.specs.declared.refusal.Refusal.{Refusal}
+use Rattle.stm_source.specs.CompiledBlock.{compiled_block}
 use Rattle.stm_commands.specs.OpenDesk.{OpenDesk, on_desk, known, present}
 use Rattle.stm_commands.specs.Refusals.{refusal_text, submit_error_text}
 

@@ -11,7 +11,7 @@ use Rattle.stm_history_text.specs.Starts.{written_start}
 use Rattle.stm_events.specs.SlowDesk.{Since, Waiter, Slow, Standing, New, Stale, Current, under, find_waiter, standing}
 use Rattle.stm_desk.specs.DeskView.{state_of}
 use Rattle.stm_lines.specs.NumberArgument.{number_argument}
-use Rattle.stm_blocks.specs.NameText.{name_text}
+use Rattle.stm_source.specs.NameText.{name_text}
 use Rattle.stm_commands.specs.Arguments.{with_number, with_nothing, argument_refused}
 use Rattle.stm_commands.specs.Blocks.{reads_line}
 use Rattle.stm_commands.specs.OpenDesk.{OpenDesk, known, present}

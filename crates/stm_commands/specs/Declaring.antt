@@ -5,8 +5,8 @@ use Rattle.stm_events.specs.declared.errors.LateDeclareError.{LateDeclareError}
 use Rattle.stm_events.specs.declared.event.What.TheVariants.{Declared as DeclaredLate}
 use Rattle.stm_desk.specs.DeskView.{DeskView, state_of, with_event}
 use Rattle.stm_desk.specs.Refusals.{late_declare_refusal}
-use Rattle.stm_blocks.specs.DeclaredVariable.{late_variable_of}
-use Rattle.stm_blocks.specs.declared.refusal.Refusal.{Refusal}
+use Rattle.stm_source.specs.DeclaredVariable.{late_variable_of}
+use Rattle.stm_source.specs.declared.refusal.Refusal.{Refusal}
 use Rattle.stm_commands.specs.OpenDesk.{OpenDesk, on_desk, known}
 use Rattle.stm_commands.specs.Refusals.{refusal_text, late_declare_error_text}
 

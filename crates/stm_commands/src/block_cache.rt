@@ -7,18 +7,18 @@ ghost use Rattle.stm_terms.specs.declared.kinds.Ty.{Ty};
 ghost use Rattle.stm_terms.specs.declared.values.Value.{Value};
 ghost use Rattle.stm_store.specs.Cells.{Covers};
 ghost use Rattle.stm_store.specs.Naming.{Named, named_uses};
-ghost use Rattle.stm_blocks.specs.CompiledBlock.{compiled_block};
-ghost use Rattle.stm_blocks.specs.OutOfMemory.{IsOutOfMemory};
+ghost use Rattle.stm_source.specs.CompiledBlock.{compiled_block};
+ghost use Rattle.stm_source.specs.OutOfMemory.{IsOutOfMemory};
 ghost use Rattle.stm_commands.specs.BlockCache.{IsBlockOf, ArePrepared};
 ghost use Rattle.stm_commands.specs.OpenInvariant.{NamesFollow};
 
 use std::alloc::Global;
 use std::marker::Model;
 use std::snapshot::Snapshot;
-use stm_blocks::Refusal;
-use stm_blocks::block::compile_shared;
 use stm_check::SharedBlock;
 use stm_parse::ParseFault;
+use stm_source::Refusal;
+use stm_source::block::compile_shared;
 use stm_store::Names;
 use stm_terms::NoMemory;
 

@@ -7,8 +7,8 @@ ghost use Rattle.stm_terms.specs.Limits.{max_events};
 ghost use Rattle.stm_events.specs.States.{IsLegalFrom};
 ghost use Rattle.stm_machine.specs.Checkpoints.{MayStart};
 ghost use Rattle.stm_desk.specs.DeskView.{start_state};
-ghost use Rattle.stm_blocks.specs.CompiledBlock.{compiled_block};
-ghost use Rattle.stm_blocks.specs.OutOfMemory.{IsOutOfMemory};
+ghost use Rattle.stm_source.specs.CompiledBlock.{compiled_block};
+ghost use Rattle.stm_source.specs.OutOfMemory.{IsOutOfMemory};
 ghost use Rattle.stm_commands.specs.OpenDesk.{opened_desk, known, present};
 
 use crate::block_cache::BlockCache;
@@ -16,10 +16,10 @@ use crate::jobs::KeptJob;
 use crate::stores::Stores;
 use std::alloc::Global;
 use std::marker::Model;
-use stm_blocks::Refusal;
 use stm_check::SharedBlock;
 use stm_desk::{Checkpoint, Desk};
 use stm_events::Event;
+use stm_source::Refusal;
 use stm_store::{Frozen, Table};
 use stm_terms::NoMemory;
 

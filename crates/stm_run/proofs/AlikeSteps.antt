@@ -53,7 +53,7 @@ use Rattle.stm_machine.specs.JobsHandedOut.{sent}
 use Rattle.stm_desk.specs.Refusals.{submit_refusal, late_declare_refusal, atomic_first, events_needed, atomic_refusal, finish_refusal, cancel_refusal, label_refusal, requeued_if_overtaken}
 use Rattle.stm_desk.specs.DeskView.{DeskView, start_state, state_of, is_full, lacks_room, with_event}
 use Rattle.stm_desk.specs.Settling.{slow_run, slow_run_stop, with_whats}
-use Rattle.stm_blocks.specs.declared.refusal.Refusal.{Refusal}
+use Rattle.stm_source.specs.declared.refusal.Refusal.{Refusal}
 use Rattle.stm_commands.specs.Atomically.{ran_text, atomically_block_step, atomically_text_step}
 use Rattle.stm_commands.specs.Blocks.{ticket_line, submit_block_step, submit_text_step}
 use Rattle.stm_commands.specs.Declaring.{declared_line, declare_variable_step, declare_text_step}

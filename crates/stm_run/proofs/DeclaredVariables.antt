@@ -28,9 +28,9 @@ use Rattle.stm_store.specs.Tables.{Declared, declared_cells, number_from, number
 use Rattle.stm_events.specs.SlowDesk.{max_cells}
 use Rattle.stm_event_lines.specs.Fits.{FitsInt, FitsValue}
 use Rattle.stm_history.specs.Judgement.{MayDeclare}
-use Rattle.stm_blocks.specs.declared.refusal.Refusal.{Refusal}
-use Rattle.stm_blocks.specs.DeclaredVariable.{reference_to, initial, unless_refused, with_initial_value, on_declaration, variable_of, late_initial, with_late_value, on_late_declaration, late_variable_of}
-use Rattle.stm_blocks.specs.OutOfMemory.{IsOutOfMemory}
+use Rattle.stm_source.specs.declared.refusal.Refusal.{Refusal}
+use Rattle.stm_source.specs.DeclaredVariable.{reference_to, initial, unless_refused, with_initial_value, on_declaration, variable_of, late_initial, with_late_value, on_late_declaration, late_variable_of}
+use Rattle.stm_source.specs.OutOfMemory.{IsOutOfMemory}
 use Rattle.stm_run.specs.Fitting.{IsReferenceSmall}
 
 -- ---- the tokens of a text come one after another

@@ -36,10 +36,10 @@ use Rattle.stm_desk.specs.DeskView.{DeskView, state_of, labels_of, is_full, lack
 use Rattle.stm_desk.specs.Settling.{slow_settle, slow_stop, slow_drain, slow_drain_stop, requeued_all}
 use Rattle.stm_run.specs.declared.command.Command.{Command}
 use Rattle.stm_run.specs.declared.command.Command.TheVariants.{Tvar, Declare, Try, Looks, Submit, Atomically, Take, Deliver, Handback, Eval, Finish, Cancel, Show, Reads, Store, Settle, Drain, History, Ready, Why, Events, Checkpoint, Label, Block as BlockCommand, Board}
-use Rattle.stm_blocks.specs.declared.refusal.Refusal.{Refusal}
+use Rattle.stm_source.specs.declared.refusal.Refusal.{Refusal}
 use Rattle.stm_lines.specs.NumberArgument.{number_argument}
-use Rattle.stm_blocks.specs.CompiledBlock.{compiled_block}
-use Rattle.stm_blocks.specs.DeclaredVariable.{late_variable_of}
+use Rattle.stm_source.specs.CompiledBlock.{compiled_block}
+use Rattle.stm_source.specs.DeclaredVariable.{late_variable_of}
 use Rattle.stm_commands.specs.Arguments.{argument_refused}
 use Rattle.stm_commands.specs.Atomically.{waits_line, ran_text, atomically_block_step, atomically_text_step, atomically_step}
 use Rattle.stm_commands.specs.Blocks.{verdict_line, tried_text, try_answer, reads_line, looked_text, looks_answer, ticket_line, submit_block_step, submit_text_step, submit_step}

@@ -12,9 +12,9 @@ use Rattle.stm_run.specs.declared.command.Command.{Command}
 use Rattle.stm_run.specs.declared.command.Command.TheVariants.{Tvar}
 use Rattle.stm_run.specs.declared.console.Console.{Console}
 use Rattle.stm_run.specs.declared.console.Console.TheVariants.{Declaring, Open}
-use Rattle.stm_blocks.specs.declared.refusal.Refusal.{Refusal}
-use Rattle.stm_blocks.specs.CompiledBlock.{compiled_block}
-use Rattle.stm_blocks.specs.DeclaredVariable.{variable_of}
+use Rattle.stm_source.specs.declared.refusal.Refusal.{Refusal}
+use Rattle.stm_source.specs.CompiledBlock.{compiled_block}
+use Rattle.stm_source.specs.DeclaredVariable.{variable_of}
 use Rattle.stm_lines.specs.LineClass.{LineClass, TooLong, Silent, NotAscii, Words, line_class}
 use Rattle.stm_run.specs.Console.{command_named, initial_console, command_step, word_step, class_step, step}
 use Rattle.stm_run.specs.ConsoleState.{present_desk}

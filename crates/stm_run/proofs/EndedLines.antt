@@ -28,10 +28,10 @@ use Rattle.stm_history_text.specs.HistoryText.{variable_lines, event_lines, cell
 use Rattle.stm_history_text.specs.Starts.{Start}
 use Rattle.stm_event_lines.specs.CheckpointLines.{cell_line, checkpoint_header_line}
 use Rattle.stm_event_lines.specs.Lines.{event_line, header_line, variable_line}
-use Rattle.stm_blocks.specs.declared.refusal.Refusal.{Refusal}
-use Rattle.stm_blocks.specs.declared.refusal.Refusal.TheVariants.{Parsing, Typing, Unknown, Declaring}
+use Rattle.stm_source.specs.declared.refusal.Refusal.{Refusal}
+use Rattle.stm_source.specs.declared.refusal.Refusal.TheVariants.{Parsing, Typing, Unknown, Declaring}
 use Rattle.stm_commands.specs.Refusals.{refused, refused_at, refused_variable, refusal_text, late_declare_error_text, submit_error_text, atomic_error_text, deliver_error_text, finish_error_text, cancel_error_text, label_error_text}
-use Rattle.stm_blocks.specs.OutOfMemory.{IsOutOfMemory}
+use Rattle.stm_source.specs.OutOfMemory.{IsOutOfMemory}
 use Rattle.stm_run.specs.Laws.{EndsALine}
 
 -- ---- refusals

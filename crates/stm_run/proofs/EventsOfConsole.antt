@@ -45,9 +45,9 @@ use Rattle.stm_desk.specs.Refusals.{submit_refusal, late_declare_refusal, atomic
 use Rattle.stm_desk.specs.DeskView.{DeskView, start_state, state_of, labels_of, with_event}
 use Rattle.stm_desk.specs.Checkpointed.{causes_of}
 use Rattle.stm_desk.specs.Settling.{slow_run, requeued_all, with_whats}
-use Rattle.stm_blocks.specs.declared.refusal.Refusal.{Refusal}
-use Rattle.stm_blocks.specs.CompiledBlock.{block_or_refusal, compiled_block}
-use Rattle.stm_blocks.specs.DeclaredVariable.{variable_of, late_variable_of}
+use Rattle.stm_source.specs.declared.refusal.Refusal.{Refusal}
+use Rattle.stm_source.specs.CompiledBlock.{block_or_refusal, compiled_block}
+use Rattle.stm_source.specs.DeclaredVariable.{variable_of, late_variable_of}
 use Rattle.stm_lines.specs.NumberArgument.{number_argument}
 use Rattle.stm_lines.specs.LineClass.{LineClass, TooLong, Silent, NotAscii, Words, line_class}
 use Rattle.stm_commands.specs.Arguments.{argument_refused}

@@ -8,7 +8,7 @@ use Rattle.stm_events.specs.declared.event.What.{What}
 use Rattle.stm_events.specs.declared.event.What.TheVariants.{Submitted, Installed, Finished, Cancelled, Declared as DeclaredLate, Labelled}
 use Rattle.stm_events.specs.SlowDesk.{Slow, after}
 use Rattle.stm_event_lines.specs.Fits.{WhatFitsNames}
-use Rattle.stm_blocks.specs.DeclaredVariable.{late_variable_of}
+use Rattle.stm_source.specs.DeclaredVariable.{late_variable_of}
 use Rattle.stm_desk.specs.DeskView.{start_state}
 use Rattle.stm_run.specs.Console.{initial_console}
 use Rattle.stm_run.specs.ConsoleState.{present_desk}

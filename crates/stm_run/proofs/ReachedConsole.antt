@@ -19,10 +19,10 @@ use Rattle.stm_run.specs.declared.command.Command.{Command}
 use Rattle.stm_run.specs.declared.command.Command.TheVariants.{Tvar, Declare, Submit, Atomically, Take, Deliver, Handback, Eval, Finish, Cancel, Settle, Drain, Checkpoint, Label}
 use Rattle.stm_run.specs.declared.console.Console.{Console}
 use Rattle.stm_run.specs.declared.console.Console.TheVariants.{Declaring, Open}
-use Rattle.stm_blocks.specs.declared.refusal.Refusal.{Refusal}
+use Rattle.stm_source.specs.declared.refusal.Refusal.{Refusal}
 use Rattle.stm_lines.specs.NumberArgument.{number_argument}
-use Rattle.stm_blocks.specs.CompiledBlock.{compiled_block}
-use Rattle.stm_blocks.specs.DeclaredVariable.{variable_of, late_variable_of}
+use Rattle.stm_source.specs.CompiledBlock.{compiled_block}
+use Rattle.stm_source.specs.DeclaredVariable.{variable_of, late_variable_of}
 use Rattle.stm_lines.specs.LineClass.{LineClass, TooLong, Silent, NotAscii, Words, line_class}
 use Rattle.stm_commands.specs.Arguments.{argument_refused}
 use Rattle.stm_commands.specs.Atomically.{atomically_text_step, atomically_step}

@@ -25,12 +25,12 @@ use Rattle.stm_store.specs.Tables.{Declared, declared_cells, number_of, may_hold
 use Rattle.stm_events.specs.Laws.{IsWellTyped}
 use Rattle.stm_event_lines.specs.WholeBlocks.{CheckedAreWellTyped}
 use Rattle.stm_event_lines.specs.WholeBlocks.{BlockFault, NotParsed, NotTyped, block_if_typed, block_if_parsed, checked_block}
-use Rattle.stm_blocks.specs.declared.refusal.Refusal.{Refusal}
-use Rattle.stm_blocks.specs.declared.refusal.Refusal.TheVariants.{Unknown}
-use Rattle.stm_blocks.specs.CompiledBlock.{block_or_refusal, compiled_block}
-use Rattle.stm_blocks.specs.DeclaredVariable.{reference_to, initial, unless_refused, with_initial_value, on_declaration, variable_of}
-use Rattle.stm_blocks.specs.OutOfMemory.{IsOutOfMemory}
-use Rattle.stm_blocks.proofs.UsesAreCovered.{named_cover}
+use Rattle.stm_source.specs.declared.refusal.Refusal.{Refusal}
+use Rattle.stm_source.specs.declared.refusal.Refusal.TheVariants.{Unknown}
+use Rattle.stm_source.specs.CompiledBlock.{block_or_refusal, compiled_block}
+use Rattle.stm_source.specs.DeclaredVariable.{reference_to, initial, unless_refused, with_initial_value, on_declaration, variable_of}
+use Rattle.stm_source.specs.OutOfMemory.{IsOutOfMemory}
+use Rattle.stm_source.proofs.UsesAreCovered.{named_cover}
 
 -- ---- declarations
 -- a variable that is declared has a value of its type; a refusal isn't for lack of memory

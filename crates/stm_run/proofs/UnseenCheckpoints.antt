@@ -22,9 +22,9 @@ use Rattle.stm_desk.specs.Settling.{requeued_all}
 use Rattle.stm_desk.proofs.ReasonsStay.{reasons_stay}
 use Rattle.stm_lines.specs.LineClass.{LineClass, TooLong, Silent, NotAscii, Words, line_class}
 use Rattle.stm_lines.specs.NumberArgument.{number_argument}
-use Rattle.stm_blocks.specs.declared.refusal.Refusal.{Refusal}
-use Rattle.stm_blocks.specs.CompiledBlock.{compiled_block}
-use Rattle.stm_blocks.specs.DeclaredVariable.{late_variable_of}
+use Rattle.stm_source.specs.declared.refusal.Refusal.{Refusal}
+use Rattle.stm_source.specs.CompiledBlock.{compiled_block}
+use Rattle.stm_source.specs.DeclaredVariable.{late_variable_of}
 use Rattle.stm_commands.specs.Arguments.{with_number, with_nothing, argument_refused}
 use Rattle.stm_commands.specs.Atomically.{atomically_text_step, atomically_step}
 use Rattle.stm_commands.specs.Blocks.{tried_text, try_answer, looked_text, looks_answer, submit_text_step, submit_step}

@@ -1,10 +1,10 @@
 -- `tvar`: a variable is declared.
 use Rattle.std.specs.Prelude.{ℕ, List, [], ◌∷◌, ◌++◌, Result, Ok, Err, length, codes, decimal}
 use Rattle.stm_store.specs.Tables.{Declared}
-use Rattle.stm_blocks.specs.DeclaredVariable.{variable_of}
+use Rattle.stm_source.specs.DeclaredVariable.{variable_of}
 use Rattle.stm_run.specs.declared.console.Console.{Console}
 use Rattle.stm_run.specs.declared.console.Console.TheVariants.{Declaring, Open}
-use Rattle.stm_blocks.specs.declared.refusal.Refusal.{Refusal}
+use Rattle.stm_source.specs.declared.refusal.Refusal.{Refusal}
 use Rattle.stm_commands.specs.Refusals.{refused, refusal_text}
 
 -- the line that tells the number and the name of a new variable

@@ -17,7 +17,7 @@ use Rattle.stm_history.specs.Judgement.{AreVariables}
 use Rattle.stm_history_text.specs.Starts.{BlocksAreOfText}
 use Rattle.stm_event_lines.specs.WholeBlocks.{checked_block}
 use Rattle.stm_desk.specs.DeskView.{DeskView, start_state, state_of}
-use Rattle.stm_blocks.specs.DeclaredVariable.{late_variable_of}
+use Rattle.stm_source.specs.DeclaredVariable.{late_variable_of}
 use Rattle.stm_run.specs.Console.{initial_console, state_after}
 use Rattle.stm_run.specs.ConsoleState.{present_desk, table_of, checkpoint_of_console, with_checkpoint}
 use Rattle.stm_run.specs.declared.console.Console.{Console}

@@ -23,13 +23,13 @@ use std::alloc::Global;
 use std::io::Write;
 use std::str;
 use std::thread::Threads;
-use stm_blocks::declaring::declare;
 use stm_commands::refusals::{refuse, refuse_argument, write_refusal};
 use stm_commands::{OpenDesk, Threading};
 use stm_desk::{Checkpoint, Desk};
 use stm_history_text::WriteFault;
 use stm_lines::arguments::number_of;
 use stm_lines::judging::{Judgement, judge};
+use stm_source::declaring::declare;
 use stm_store::{Seed, Table};
 use stm_terms::NoMemory;
 

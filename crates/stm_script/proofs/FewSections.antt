@@ -10,9 +10,9 @@ use Rattle.stm_script.specs.declared.section.Task.{Task}
 use Rattle.stm_script.specs.declared.section.Task.TheVariants as task
 use Rattle.stm_script.specs.Limits.{max_sections}
 use Rattle.stm_lines.specs.NumberArgument.{number_argument}
-use Rattle.stm_blocks.specs.CompiledBlock.{compiled_block}
-use Rattle.stm_blocks.specs.DeclaredVariable.{variable_of}
-use Rattle.stm_blocks.specs.declared.refusal.Refusal.{Refusal}
+use Rattle.stm_source.specs.CompiledBlock.{compiled_block}
+use Rattle.stm_source.specs.DeclaredVariable.{variable_of}
+use Rattle.stm_source.specs.declared.refusal.Refusal.{Refusal}
 use Rattle.stm_script.specs.declared.storm_word.StormWord.{StormWord}
 use Rattle.stm_script.specs.declared.storm_word.StormWord.TheVariants.{Tvar, Client, Submit, Finish, Cancel, Expect}
 use Rattle.stm_lines.specs.LineClass.{LineClass, TooLong, Silent, NotAscii, Words}

@@ -1,7 +1,7 @@
 -- The code's script under way, and what its calls return, by the definitions of scripts.
 use Rattle.std.specs.Prelude.{◌≡◌, ◌≤◌, ℕ, ◌+◌, nat_lt, List, [], ◌∷◌, ◌++◌, Option, Some, None, Result, Ok, Err, length, map, if◌then◌else◌, ⊤}
-use Rattle.stm_blocks.specs.declared.refusal.Refusal.{Refusal}
-use Rattle.stm_blocks.specs.OutOfMemory.{IsOutOfMemory}
+use Rattle.stm_source.specs.declared.refusal.Refusal.{Refusal}
+use Rattle.stm_source.specs.OutOfMemory.{IsOutOfMemory}
 use Rattle.stm_store.specs.Tables.{Declared}
 use Rattle.stm_script.specs.declared.section.Section.{Section}
 use Rattle.stm_script.specs.declared.section.Task.{Task}

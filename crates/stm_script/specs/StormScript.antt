@@ -12,16 +12,16 @@ use Rattle.stm_store.specs.Tables.{Declared, declared_cells, number_of, is_of}
 use Rattle.stm_script.specs.declared.section.Task.{Task}
 use Rattle.stm_script.specs.declared.section.Task.TheVariants as task
 use Rattle.stm_script.specs.Limits.{max_sections}
-use Rattle.stm_blocks.specs.declared.refusal.Refusal.{Refusal}
-use Rattle.stm_blocks.specs.declared.refusal.Refusal.TheVariants.{Parsing, Unknown, Declaring}
+use Rattle.stm_source.specs.declared.refusal.Refusal.{Refusal}
+use Rattle.stm_source.specs.declared.refusal.Refusal.TheVariants.{Parsing, Unknown, Declaring}
 use Rattle.stm_script.specs.declared.script_fault.Reason.{Reason}
 use Rattle.stm_script.specs.declared.script_fault.Reason.TheVariants as reason
 use Rattle.stm_script.specs.declared.script_fault.ScriptFault.{ScriptFault}
 use Rattle.stm_script.specs.declared.storm_word.StormWord.{StormWord}
 use Rattle.stm_script.specs.declared.storm_word.StormWord.TheVariants.{Tvar, Client, Submit, Finish, Cancel, Expect}
 use Rattle.stm_lines.specs.NumberArgument.{number_argument}
-use Rattle.stm_blocks.specs.CompiledBlock.{compiled_block}
-use Rattle.stm_blocks.specs.DeclaredVariable.{initial, variable_of}
+use Rattle.stm_source.specs.CompiledBlock.{compiled_block}
+use Rattle.stm_source.specs.DeclaredVariable.{initial, variable_of}
 use Rattle.stm_lines.specs.LineClass.{LineClass, TooLong, Silent, NotAscii, Words, line_class}
 use Rattle.stm_lines.specs.Lines.{lines_of}
 

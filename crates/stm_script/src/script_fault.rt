@@ -3,9 +3,9 @@
 ghost use Rattle.std.specs.Prelude.{◌≡◌};
 ghost use Rattle.stm_script.specs.FaultText.{declare_error_name, parse_fault_name, parse_fault_place, reason_name, reason_place, refusal_name, refusal_place, type_fault_name, type_fault_place};
 
-use stm_blocks::Refusal;
 use stm_check::TypeFault;
 use stm_parse::ParseFault;
+use stm_source::Refusal;
 use stm_store::DeclareError;
 use thiserror::Error;
 

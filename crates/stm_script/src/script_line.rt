@@ -5,9 +5,9 @@ ghost use Rattle.stm_terms.specs.UnlessNoMemory.{AnswersUnless};
 ghost use Rattle.stm_parse.specs.Declarations.{parsed_initial};
 ghost use Rattle.stm_parse.specs.ExpectationFunction.{parsed_expectation};
 ghost use Rattle.stm_lines.specs.NumberArgument.{number_argument};
-ghost use Rattle.stm_blocks.specs.CompiledBlock.{compiled_block};
-ghost use Rattle.stm_blocks.specs.DeclaredVariable.{initial as initial_of};
-ghost use Rattle.stm_blocks.specs.OutOfMemory.{IsOutOfMemory};
+ghost use Rattle.stm_source.specs.CompiledBlock.{compiled_block};
+ghost use Rattle.stm_source.specs.DeclaredVariable.{initial as initial_of};
+ghost use Rattle.stm_source.specs.OutOfMemory.{IsOutOfMemory};
 ghost use Rattle.stm_store.specs.Naming.{named_in_table};
 ghost use Rattle.stm_script.specs.ScriptReading.{or_refused};
 ghost use Rattle.stm_script.specs.StormScript.{submission_of, expected_at, expected_task};
@@ -16,12 +16,12 @@ use crate::script_fault::Reason;
 use crate::section::Task;
 use crate::variables::Variables;
 use std::alloc::Global;
-use stm_blocks::Refusal;
-use stm_blocks::block::compile_block;
-use stm_blocks::declaring::initial;
 use stm_check::{SharedBlock, TypeFault};
 use stm_lines::arguments::number_of;
 use stm_parse::{Init, ParseFault, parse_expectation};
+use stm_source::Refusal;
+use stm_source::block::compile_block;
+use stm_source::declaring::initial;
 use stm_store::{DeclareError, Table};
 
 /// Why a line of a script isn't taken.

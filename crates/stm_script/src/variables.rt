@@ -1,14 +1,14 @@
 //! The variables of a script.
 
 ghost use Rattle.std.specs.Prelude.{◌≡◌, ◌<◌, ◌-◌, [], length, take, OnOk};
-ghost use Rattle.stm_blocks.specs.DeclaredVariable.{variable_of};
+ghost use Rattle.stm_source.specs.DeclaredVariable.{variable_of};
 ghost use Rattle.stm_store.specs.Naming.{named_in_table};
 ghost use Rattle.stm_script.specs.ScriptReading.{DeclaresNext};
 
 use std::alloc::Global;
 use std::marker::Model;
-use stm_blocks::Refusal;
-use stm_blocks::declaring::declare;
+use stm_source::Refusal;
+use stm_source::declaring::declare;
 use stm_store::{DeclareError, Names, Seed, Table};
 use stm_terms::NoMemory;
 

@@ -2,7 +2,7 @@
 
 ghost use Rattle.std.specs.Prelude.{◌≡◌, ◌++◌, IsTrue, string_bytes, OnOk};
 ghost use Rattle.stm_terms.specs.Names.{is_name_text};
-ghost use Rattle.stm_blocks.specs.LateVariables.{late_variable as variable_in};
+ghost use Rattle.stm_source.specs.LateVariables.{late_variable as variable_in};
 ghost use Rattle.stm_desk.specs.Refusals.{late_declare_refusal};
 ghost use Rattle.stm_commands.specs.Declaring.{declared_line, declare_variable_step, declare_step};
 ghost use Rattle.stm_commands.specs.OpenDesk.{on_desk, Steps};
@@ -10,7 +10,7 @@ ghost use Rattle.stm_commands.specs.OpenDesk.{on_desk, Steps};
 use crate::open_desk::OpenDesk;
 use crate::refusals::{refuse_late_declaration, write_refusal};
 use std::alloc::Global;
-use stm_blocks::declaring::{LateVariable, late_variable};
+use stm_source::declaring::{LateVariable, late_variable};
 use stm_terms::NoMemory;
 
 #[tactic(auto, unfolding(crate::specs::Declaring::declared_line))]

@@ -1,5 +1,5 @@
 use Rattle.std.proofs.Common.{rules, ◌≡◌, List, ℕ, Some, Ok, arith, subst, slice_index_or}
-use Rattle.stm_blocks.specs.CompiledBlock.{compiled_block}
+use Rattle.stm_source.specs.CompiledBlock.{compiled_block}
 use Rattle.stm_commands.proofs.PreparedBlocks.{prepared_at}
 use Rattle.stm_commands.proofs.block_cache.block_at.Goals as goal
 

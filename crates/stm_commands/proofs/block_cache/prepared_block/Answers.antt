@@ -1,5 +1,5 @@
 use Rattle.std.proofs.Common.{◌≡◌, List, ℕ, Ok, sym, subst}
-use Rattle.stm_blocks.specs.CompiledBlock.{compiled_block}
+use Rattle.stm_source.specs.CompiledBlock.{compiled_block}
 use Rattle.stm_commands.proofs.PreparedBlocks.{compiled_text, answers_shared, covers_shared}
 use Rattle.stm_commands.proofs.block_cache.prepared_block.Goals as goal
 

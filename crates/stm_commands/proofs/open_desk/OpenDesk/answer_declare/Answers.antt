@@ -1,7 +1,7 @@
 use Rattle.std.proofs.Common.{◌≡◌, List, Ok, sym, ap, ◌∙◌}
 use Rattle.stm_store.specs.Naming.{Named}
-use Rattle.stm_blocks.specs.DeclaredVariable.{late_variable_of}
-use Rattle.stm_blocks.specs.LateVariables.{late_variable}
+use Rattle.stm_source.specs.DeclaredVariable.{late_variable_of}
+use Rattle.stm_source.specs.LateVariables.{late_variable}
 use Rattle.stm_commands.specs.OpenDesk.{known}
 use Rattle.stm_commands.proofs.DeskSteps.{text_declared}
 use Rattle.stm_commands.proofs.open_desk.OpenDesk.answer_declare.Goals as goal

@@ -1,6 +1,6 @@
 use Rattle.std.proofs.Common.{OnOk, Result, sym, subst, string_bytes}
 use Rattle.stm_check.specs.TypedBlock.{Block}
-use Rattle.stm_blocks.specs.declared.refusal.Refusal.{Refusal}
+use Rattle.stm_source.specs.declared.refusal.Refusal.{Refusal}
 use Rattle.stm_desk.specs.Refusals.{submit_refusal}
 use Rattle.stm_commands.specs.Blocks.{submit_block_step, submit_text_step, submit_step}
 use Rattle.stm_commands.specs.OpenDesk.{OpenDesk, on_desk, Steps}

@@ -1,5 +1,5 @@
-use Rattle.stm_blocks.proofs.UsesAreCovered.{named_cover}
-use Rattle.stm_blocks.proofs.block.compile_block.Goals as goal
+use Rattle.stm_source.proofs.UsesAreCovered.{named_cover}
+use Rattle.stm_source.proofs.block.compile_block.Goals as goal
 
 pub returns-clause-covered : goal.returns-clause-covered
 returns-clause-covered c = λ cells k.

@@ -1,7 +1,7 @@
 //! The names of variables.
 
 ghost use Rattle.std.specs.Prelude.{◌≡◌, ◌++◌, option_map, string_bytes, OnOk};
-ghost use Rattle.stm_blocks.specs.NameText.{name_text};
+ghost use Rattle.stm_source.specs.NameText.{name_text};
 
 use stm_terms::NoMemory;
 

@@ -16,7 +16,7 @@ pub enum Refusal {
 
 impl From<ParseFault> for Refusal {
     ghost use Rattle.std.specs.Prelude.{◌≡◌};
-    ghost use Rattle.stm_blocks.specs.declared.refusal.Refusal.TheVariants.{Parsing};
+    ghost use Rattle.stm_source.specs.declared.refusal.Refusal.TheVariants.{Parsing};
 
     ghost from_gives = { λ f e. e ≡ Parsing f };
 
@@ -27,7 +27,7 @@ impl From<ParseFault> for Refusal {
 
 impl From<TypeFault> for Refusal {
     ghost use Rattle.std.specs.Prelude.{◌≡◌};
-    ghost use Rattle.stm_blocks.specs.declared.refusal.Refusal.TheVariants.{Typing};
+    ghost use Rattle.stm_source.specs.declared.refusal.Refusal.TheVariants.{Typing};
 
     ghost from_gives = { λ f e. e ≡ Typing f };
 
@@ -38,7 +38,7 @@ impl From<TypeFault> for Refusal {
 
 impl From<DeclareError> for Refusal {
     ghost use Rattle.std.specs.Prelude.{◌≡◌};
-    ghost use Rattle.stm_blocks.specs.declared.refusal.Refusal.TheVariants.{Declaring};
+    ghost use Rattle.stm_source.specs.declared.refusal.Refusal.TheVariants.{Declaring};
 
     ghost from_gives = { λ f e. e ≡ Declaring f };
 

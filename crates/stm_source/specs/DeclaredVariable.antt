@@ -10,8 +10,8 @@ use Rattle.stm_parse.specs.ParseFunction.{parsed_declaration}
 use Rattle.stm_store.specs.declared.table.DeclareError.{DeclareError}
 use Rattle.stm_store.specs.Naming.{Named, number_named}
 use Rattle.stm_store.specs.Tables.{Declared, number_of, declare_refusal}
-use Rattle.stm_blocks.specs.declared.refusal.Refusal.{Refusal}
-use Rattle.stm_blocks.specs.declared.refusal.Refusal.TheVariants.{Parsing, Unknown, Declaring as Refused}
+use Rattle.stm_source.specs.declared.refusal.Refusal.{Refusal}
+use Rattle.stm_source.specs.declared.refusal.Refusal.TheVariants.{Parsing, Unknown, Declaring as Refused}
 
 -- a name in place of a first value stands for a reference to its variable
 abbrev pub reference_to : ℕ → Option ℕ → Result Value Refusal

@@ -3,8 +3,8 @@ use Rattle.std.specs.Prelude.{◌≡◌}
 use Rattle.stm_parse.specs.declared.fault.ParseFault.TheVariants as parse
 use Rattle.stm_check.specs.declared.fault.TypeFault.TheVariants as typed
 use Rattle.stm_store.specs.declared.table.DeclareError.TheVariants as declare
-use Rattle.stm_blocks.specs.declared.refusal.Refusal.{Refusal}
-use Rattle.stm_blocks.specs.declared.refusal.Refusal.TheVariants.{Parsing, Typing, Unknown, Declaring}
+use Rattle.stm_source.specs.declared.refusal.Refusal.{Refusal}
+use Rattle.stm_source.specs.declared.refusal.Refusal.TheVariants.{Parsing, Typing, Unknown, Declaring}
 
 -- the refusal says that memory ran out, and no more
 abbrev pub IsOutOfMemory : Refusal → Type 0

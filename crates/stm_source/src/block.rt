@@ -6,8 +6,8 @@ ghost use Rattle.stm_terms.specs.declared.kinds.Ty.{Ty};
 ghost use Rattle.stm_terms.specs.declared.values.Value.{Value};
 ghost use Rattle.stm_store.specs.Cells.{Covers};
 ghost use Rattle.stm_store.specs.Naming.{named_uses};
-ghost use Rattle.stm_blocks.specs.CompiledBlock.{compiled_block};
-ghost use Rattle.stm_blocks.specs.OutOfMemory.{IsOutOfMemory};
+ghost use Rattle.stm_source.specs.CompiledBlock.{compiled_block};
+ghost use Rattle.stm_source.specs.OutOfMemory.{IsOutOfMemory};
 
 use crate::refusal::Refusal;
 use std::alloc::Global;

@@ -2,12 +2,12 @@
 
 ghost use Rattle.std.specs.Prelude.{◌≡◌, IfOk, IsTrue};
 ghost use Rattle.stm_parse.specs.Declarations.{parsed_initial};
-ghost use Rattle.stm_blocks.specs.DeclaredVariable.{initial as initial_of, late_initial as late_initial_of, variable_of, late_variable_of};
-ghost use Rattle.stm_blocks.specs.LateVariables.{late_variable as variable_in};
-ghost use Rattle.stm_blocks.specs.OutOfMemory.{IsOutOfMemory};
+ghost use Rattle.stm_source.specs.DeclaredVariable.{initial as initial_of, late_initial as late_initial_of, variable_of, late_variable_of};
+ghost use Rattle.stm_source.specs.LateVariables.{late_variable as variable_in};
+ghost use Rattle.stm_source.specs.OutOfMemory.{IsOutOfMemory};
 ghost use Rattle.stm_terms.specs.Names.{is_name_text};
 ghost use Rattle.stm_terms.specs.UnlessNoMemory.{AnswersExcept};
-ghost use Rattle.stm_blocks.specs.Declares.{Declares};
+ghost use Rattle.stm_source.specs.Declares.{Declares};
 
 use crate::refusal::Refusal;
 use std::alloc::Global;
