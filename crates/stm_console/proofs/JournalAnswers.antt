@@ -10,9 +10,9 @@ use Rattle.stm_history.specs.Loading.{ReportsLoadFault}
 use Rattle.stm_journal.specs.declared.error.JournalError.TheVariants as journal_error
 use Rattle.stm_journal.specs.Journal.{most_batch}
 use Rattle.stm_journal.specs.Text.{recovered, dropped_count}
-use Rattle.stm_durable.specs.Durable.{ReportsOpenFault}
-use Rattle.stm_durable.specs.declared.resuming.OpenFault.{OpenFault}
-use Rattle.stm_durable.specs.declared.resuming.OpenFault.TheVariants.{Journal, History, Foreign}
+use Rattle.stm_history_file.specs.Durable.{ReportsOpenFault}
+use Rattle.stm_history_file.specs.declared.resuming.OpenFault.{OpenFault}
+use Rattle.stm_history_file.specs.declared.resuming.OpenFault.TheVariants.{Journal, History, Foreign}
 use Rattle.stm_lines.specs.Lines.{lines_of}
 use Rattle.stm_run.specs.declared.console.Console.{Console}
 use Rattle.stm_run.specs.LineCheckpoints.{Turn, turn_lines, line_step, answer_by, state_after_turn, answers_by, ForTurns}

@@ -9,9 +9,9 @@ use Rattle.stm_journal.specs.declared.error.JournalError.{JournalError}
 use Rattle.stm_journal.specs.declared.error.JournalError.TheVariants.{NoMemory, TornTooLong}
 use Rattle.stm_journal.specs.Journal.{most_batch}
 use Rattle.stm_journal.specs.Text.{recovered, dropped_count}
-use Rattle.stm_durable.specs.declared.resuming.OpenFault.{OpenFault}
-use Rattle.stm_durable.specs.declared.resuming.OpenFault.TheVariants.{Journal, History, Foreign}
-use Rattle.stm_durable.specs.Durable.{IsForeign}
+use Rattle.stm_history_file.specs.declared.resuming.OpenFault.{OpenFault}
+use Rattle.stm_history_file.specs.declared.resuming.OpenFault.TheVariants.{Journal, History, Foreign}
+use Rattle.stm_history_file.specs.Durable.{IsForeign}
 use Rattle.stm_console.specs.declared.files.OpenError.{OpenError}
 use Rattle.stm_console.specs.declared.files.OpenError.TheVariants as open_error
 use Rattle.stm_console.specs.declared.status.TheConstants.{FAILED, NOT_RIGHT, NO_MEMORY}

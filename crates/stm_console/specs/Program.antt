@@ -6,7 +6,7 @@ use Rattle.stm_terms.specs.Texts.{IsPrefixOf}
 use Rattle.stm_lines.specs.Lines.{lines_of}
 use Rattle.stm_history.specs.declared.files.loading.Loaded.{Loaded}
 use Rattle.stm_journal.specs.Text.{recovered}
-use Rattle.stm_durable.specs.Durable.{LoadsFront}
+use Rattle.stm_history_file.specs.Durable.{LoadsFront}
 use Rattle.stm_run.specs.declared.console.Console.{Console}
 use Rattle.stm_run.specs.Console.{console_text}
 use Rattle.stm_run.specs.LineCheckpoints.{Turn, answers_by, ForTurns}

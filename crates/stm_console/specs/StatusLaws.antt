@@ -3,7 +3,7 @@ use Rattle.std.specs.Prelude.{◌≡◌, ◌≢◌, ◌⊎◌, ℕ, List, [], Op
 use Rattle.stm_history.specs.declared.files.loading.Loaded.{Loaded}
 use Rattle.stm_journal.specs.declared.sync_mode.SyncMode.{SyncMode}
 use Rattle.stm_journal.specs.Text.{recovered}
-use Rattle.stm_durable.specs.Durable.{LoadsFront}
+use Rattle.stm_history_file.specs.Durable.{LoadsFront}
 use Rattle.stm_run.specs.Console.{console_text}
 use Rattle.stm_run.specs.LineCheckpoints.{answers_by}
 use Rattle.stm_durable_run.specs.DurableRun.{resumed_console}

@@ -7,9 +7,9 @@ use Rattle.stm_history_text.specs.Starts.{Start}
 use Rattle.stm_journal.specs.declared.sync_mode.SyncMode.{SyncMode}
 use Rattle.stm_journal.specs.Disk.{Disk, LeavesOnly}
 use Rattle.stm_journal.proofs.Moments.{joined, weaker}
-use Rattle.stm_durable.specs.Durable.{AreFit, FitLines, HistoryKept, LeavesHistory}
-use Rattle.stm_durable.specs.declared.recording.HistoryFile.{HistoryFile}
-use Rattle.stm_durable.proofs.Crashes.{stays}
+use Rattle.stm_history_file.specs.Durable.{AreFit, FitLines, HistoryKept, LeavesHistory}
+use Rattle.stm_history_file.specs.declared.recording.HistoryFile.{HistoryFile}
+use Rattle.stm_history_file.proofs.Crashes.{stays}
 use Rattle.stm_durable_run.specs.Committing.{LeavesBatches}
 
 -- ---- the events of a part can be in lines

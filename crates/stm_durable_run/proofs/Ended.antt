@@ -11,8 +11,8 @@ use Rattle.stm_history.specs.declared.files.loading.Loaded.{Loaded}
 use Rattle.stm_journal.specs.declared.sync_mode.SyncMode.{SyncMode}
 use Rattle.stm_journal.specs.Disk.{Disk, LeavesOnly}
 use Rattle.stm_journal.proofs.Moments.{weaker}
-use Rattle.stm_durable.specs.Durable.{HasLoaded, HistoryKept, IsFormatFor, IsFormatOf, LoadedKept}
-use Rattle.stm_durable.specs.declared.recording.HistoryFile.{HistoryFile}
+use Rattle.stm_history_file.specs.Durable.{HasLoaded, HistoryKept, IsFormatFor, IsFormatOf, LoadedKept}
+use Rattle.stm_history_file.specs.declared.recording.HistoryFile.{HistoryFile}
 use Rattle.stm_event_lines.specs.Fits.{WhatFitsNames}
 use Rattle.stm_event_lines.specs.Lines.{declaring_format, rule_of}
 use Rattle.stm_events.specs.declared.event.Event.{Event}

@@ -28,7 +28,7 @@ use Rattle.stm_event_lines.proofs.CheckedBlocks.{checked_blocks_stay}
 use Rattle.stm_history.specs.Judgement.{FitCells, FitBlocks, FitsBefore, FormatFits}
 use Rattle.stm_history_text.specs.Starts.{AreOfText, BlocksAreOfText, are_plain_blocks, declares, format_of_start, is_declaration, is_labelling, labels_blocks}
 use Rattle.stm_history.proofs.KeptIsTaken.{written_fits}
-use Rattle.stm_durable.specs.Durable.{AreFit, IsFormatFor}
+use Rattle.stm_history_file.specs.Durable.{AreFit, IsFormatFor}
 use Rattle.stm_desk.specs.DeskView.{start_state}
 use Rattle.stm_commands.specs.OpenDesk.{OpenDesk}
 use Rattle.stm_run.specs.declared.console.Console.{Console}

@@ -18,10 +18,10 @@ use Rattle.stm_journal.specs.declared.sync_mode.SyncMode.TheVariants.{Full, Appe
 use Rattle.stm_journal.specs.Disk.{Disk, LeavesOnly}
 use Rattle.stm_journal.specs.Text.{IsWhole}
 use Rattle.stm_journal.proofs.Moments.{weaker}
-use Rattle.stm_durable.specs.Durable.{file_text, FitLines, HistoryKept, IsFormatFor, KeepsHistory, LeavesHistory}
-use Rattle.stm_durable.specs.declared.recording.HistoryFile.{HistoryFile}
-use Rattle.stm_durable.proofs.Crashes.{left_alone, stays, stays_left}
-use Rattle.stm_durable.proofs.Texts.{IsWhole-history}
+use Rattle.stm_history_file.specs.Durable.{file_text, FitLines, HistoryKept, IsFormatFor, KeepsHistory, LeavesHistory}
+use Rattle.stm_history_file.specs.declared.recording.HistoryFile.{HistoryFile}
+use Rattle.stm_history_file.proofs.Crashes.{left_alone, stays, stays_left}
+use Rattle.stm_history_file.proofs.Texts.{IsWhole-history}
 use Rattle.stm_commands.specs.OpenDesk.{OpenDesk}
 use Rattle.stm_run.specs.declared.console.Console.{Console}
 use Rattle.stm_run.specs.declared.console.Console.TheVariants.{Declaring, Open}

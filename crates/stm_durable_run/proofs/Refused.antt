@@ -4,8 +4,8 @@ use Rattle.stm_journal.specs.declared.replace.ReplaceError.{ReplaceError}
 use Rattle.stm_journal.specs.declared.replace.ReplaceError.TheVariants.{Refused, Unfinished}
 use Rattle.stm_journal.specs.Disk.{Disk}
 use Rattle.stm_journal.specs.Replacing.{OnRefused}
-use Rattle.stm_durable.specs.Durable.{HistoryKept, IsFormatFor, KeepsHistories}
-use Rattle.stm_durable.specs.declared.recording.HistoryFile.{HistoryFile}
+use Rattle.stm_history_file.specs.Durable.{HistoryKept, IsFormatFor, KeepsHistories}
+use Rattle.stm_history_file.specs.declared.recording.HistoryFile.{HistoryFile}
 use Rattle.stm_run.specs.ConsoleState.{checkpoint_of_console, events_of}
 use Rattle.stm_durable_run.specs.DurableRun.{HasFormat, KeepsConsoles, start_in}
 

@@ -8,8 +8,8 @@ use Rattle.stm_history.specs.declared.files.loading.Loaded.{Loaded}
 use Rattle.stm_options.specs.declared.options.Options.{Options}
 use Rattle.stm_journal.specs.declared.sync_mode.SyncMode.{SyncMode}
 use Rattle.stm_journal.specs.Disk.{Disk, LeavesOnly}
-use Rattle.stm_durable.specs.Durable.{HistoryKept, LeavesHistory, MayBecome}
-use Rattle.stm_durable.specs.declared.recording.HistoryFile.{HistoryFile}
+use Rattle.stm_history_file.specs.Durable.{HistoryKept, LeavesHistory, MayBecome}
+use Rattle.stm_history_file.specs.declared.recording.HistoryFile.{HistoryFile}
 use Rattle.stm_commands.specs.Checkpointing.{are_tickets_full, checkpoint_line, bare_checkpoint_step}
 use Rattle.stm_commands.specs.Refusals.{refused}
 use Rattle.stm_lines.specs.Lines.{lines_of, whole_lines_of}

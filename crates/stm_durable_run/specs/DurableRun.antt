@@ -12,8 +12,8 @@ use Rattle.stm_journal.specs.declared.error.JournalError.TheVariants.{NoMemory, 
 use Rattle.stm_journal.specs.declared.sync_mode.SyncMode.{SyncMode}
 use Rattle.stm_journal.specs.Disk.{Disk, MayFail, FailsOnlyIfAny}
 use Rattle.stm_journal.specs.Device.{Own}
-use Rattle.stm_durable.specs.Durable.{HistoryKept, IsFormatFor, LeavesHistory}
-use Rattle.stm_durable.specs.declared.recording.HistoryFile.{HistoryFile}
+use Rattle.stm_history_file.specs.Durable.{HistoryKept, IsFormatFor, LeavesHistory}
+use Rattle.stm_history_file.specs.declared.recording.HistoryFile.{HistoryFile}
 use Rattle.stm_lines.specs.RunStatus.{status_of}
 use Rattle.stm_commands.specs.DueTickets.{queue_for}
 use Rattle.stm_run.specs.declared.console.Console.{Console}

@@ -7,7 +7,7 @@ use Rattle.stm_events.specs.declared.event.What.TheVariants.{Submitted, Installe
 use Rattle.stm_events.specs.SlowDesk.{Slow, after, state_from}
 use Rattle.stm_events.specs.States.{IsLegalFrom}
 use Rattle.stm_machine.specs.Checkpoints.{CheckpointView, MayStart}
-use Rattle.stm_durable.specs.Durable.{FitLines, IsFormatFor}
+use Rattle.stm_history_file.specs.Durable.{FitLines, IsFormatFor}
 use Rattle.stm_event_lines.specs.WholeBlocks.{checked_block}
 use Rattle.stm_desk.specs.DeskView.{start_state}
 use Rattle.stm_run.specs.declared.console.Console.{Console}

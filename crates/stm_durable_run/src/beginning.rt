@@ -15,7 +15,7 @@ use crate::ranges::{blocks_in_range, cells_in_range};
 use std::alloc::Global;
 use stm_commands::OpenDesk;
 use stm_desk::Checkpoint;
-use stm_durable::HistoryFile;
+use stm_history_file::HistoryFile;
 use stm_history_text::format_for;
 use stm_journal::{Replace, ReplaceError};
 use stm_run::console::Console;

@@ -35,7 +35,7 @@ use stm_commands::Threading;
 use stm_commands::commands::checkpoint::write_checkpoint_line;
 use stm_commands::refusals::refuse;
 use stm_desk::Checkpoint;
-use stm_durable::HistoryFile;
+use stm_history_file::HistoryFile;
 use stm_history_text::WriteFault;
 use stm_journal::{Device, JournalError, Replace, ReplaceError};
 use stm_lines::RunFault;

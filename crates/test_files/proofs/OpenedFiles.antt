@@ -7,10 +7,10 @@ use Rattle.stm_machine.specs.Checkpoints.{CheckpointView}
 use Rattle.stm_history.specs.Judgement.{AreEvents, FitsBefore, FormatFits, IsBefore}
 use Rattle.stm_history.specs.Loading.{HasText, loaded_start}
 use Rattle.stm_history_text.specs.Starts.{Start, first_state}
-use Rattle.stm_durable.specs.Durable.{AreFit, FitLines, LoadedKept, HistoryKept}
+use Rattle.stm_history_file.specs.Durable.{AreFit, FitLines, LoadedKept, HistoryKept}
 use Rattle.stm_history.specs.declared.files.loading.Loaded.{Loaded}
 use Rattle.stm_journal.specs.Disk.{Disk}
-use Rattle.stm_durable.specs.declared.recording.HistoryFile.{HistoryFile}
+use Rattle.stm_history_file.specs.declared.recording.HistoryFile.{HistoryFile}
 
 -- a file of which nothing was loaded has no history yet, wherever it begins
 pub none_yet : {D : Type 0} (disk : Disk D) (f : HistoryFile D) (loaded : Option Loaded) → loaded ≡ None → LoadedKept disk f loaded → (start : Start) → HistoryKept disk f start []

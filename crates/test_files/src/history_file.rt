@@ -5,8 +5,8 @@ ghost use Rattle.stm_history.specs.Loading.{HasText, loaded_start};
 
 use std::alloc::Global;
 use std::test::Fail;
-use stm_durable::{OpenFault, Opened, open_history};
 use stm_history::{HistoryFault, LoadFault};
+use stm_history_file::{OpenFault, Opened, open_history};
 use stm_journal::{Memory, SyncMode};
 use stm_store::Seed;
 

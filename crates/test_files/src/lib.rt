@@ -1,7 +1,7 @@
 //! Tests of the crates of lines, journals and journaled runs, by calls.
 //!
 //! What is shown here no program does by a script, and no contract says: that calls succeed, and what files and devices in memory have
-//! after them. Each module tests one crate: `journal` `stm_journal`, `lines` `stm_event_lines`, `history_file` `stm_durable`, and
+//! after them. Each module tests one crate: `journal` `stm_journal`, `lines` `stm_event_lines`, `history_file` `stm_history_file`, and
 //! `journaled_run` `stm_durable_run`. `disk` is a device that runs out of space.
 #![tactic(auto)]
 

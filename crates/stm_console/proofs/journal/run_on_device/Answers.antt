@@ -1,7 +1,7 @@
 use Rattle.std.proofs.Common.{ℕ, List, inl, inr, refl}
 use Rattle.std.proofs.KnownBytes.{Keeps-refl}
 use Rattle.stm_journal.specs.Text.{recovered}
-use Rattle.stm_durable.specs.Durable.{LoadsFront}
+use Rattle.stm_history_file.specs.Durable.{LoadsFront}
 use Rattle.stm_console.proofs.JournalAnswers.{answered_lines, part_answered, durable_failed, known, unopened}
 use Rattle.stm_console.proofs.journal.run_on_device.Goals as goal
 

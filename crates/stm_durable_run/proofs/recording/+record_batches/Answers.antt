@@ -1,7 +1,7 @@
 use Rattle.std.proofs.Common.{◌≡◌, ◌<◌, ◌++◌, ◌∙◌, true, IsTrue, List, length, subst, rules, arith}
 use Rattle.stm_events.specs.declared.event.Event.{Event}
 use Rattle.stm_events.specs.SlowDesk.{Slow, state_from}
-use Rattle.stm_durable.specs.Durable.{FitLines, HistoryKept}
+use Rattle.stm_history_file.specs.Durable.{FitLines, HistoryKept}
 use Rattle.stm_run.specs.declared.console.Console.TheVariants.{Open}
 use Rattle.stm_durable_run.specs.DurableRun.{start_in}
 use Rattle.stm_durable_run.proofs.Batches.{fit_front, fit_back, first_run, rest_run, halves, on_recorded}

@@ -4,7 +4,7 @@ use Rattle.stm_events.specs.SlowDesk.{Slow}
 use Rattle.stm_machine.specs.Checkpoints.{CheckpointView}
 use Rattle.stm_history.specs.Loading.{loaded_start}
 use Rattle.stm_history_text.specs.Starts.{first_state}
-use Rattle.stm_durable.specs.Durable.{FitLines}
+use Rattle.stm_history_file.specs.Durable.{FitLines}
 use Rattle.test_files.proofs.OpenedFiles.{fits_again, fits_none, in_its_format, some_history, text_of}
 use Rattle.test_files.proofs.history_file.begun_again.Goals as goal
 

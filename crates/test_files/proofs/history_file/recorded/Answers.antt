@@ -3,7 +3,7 @@ use Rattle.stm_events.specs.declared.event.Event.{Event}
 use Rattle.stm_machine.specs.Checkpoints.{CheckpointView}
 use Rattle.stm_history.specs.Loading.{loaded_start}
 use Rattle.stm_history_text.specs.Starts.{first_state}
-use Rattle.stm_durable.specs.Durable.{FitLines}
+use Rattle.stm_history_file.specs.Durable.{FitLines}
 use Rattle.test_files.proofs.OpenedFiles.{fits_again, none_yet, text_of}
 use Rattle.test_files.proofs.history_file.recorded.Goals as goal
 

@@ -1,0 +1,135 @@
+//! Events, recorded in a file.
+
+ghost use Rattle.std.specs.Prelude.{◌≡◌, ◌≢◌, ◌++◌, ◌+◌, ◌<◌, ◌≤◌, ◌^◌, [], true, false, IsTrue, length, take, OnOk, IfOk, IfErr};
+ghost use Rattle.stm_events.specs.SlowDesk.{Slow};
+ghost use Rattle.stm_history.specs.Judgement.{AreEvents};
+ghost use Rattle.stm_journal.specs.Disk.{Shows, CrashLeaves, FailsOnlyIf};
+ghost use Rattle.stm_journal.specs.Journal.{IsAtRest, MayLeave, most_batch};
+ghost use Rattle.stm_journal.specs.Text.{IsWhole};
+ghost use Rattle.stm_history_file.specs.Durable.{lent_start, history_front, IsBegunOrWhole, LeavesOwn, batch_text, batch_sync, KeepsSome, FitLines, Records, RefusesLongEvents, LeavesAtAnyMoment, RecordsUnless};
+
+use std::alloc::Global;
+use stm_events::Event;
+use stm_history_text::{write_events, write_start};
+use stm_journal::{Device, Journal, JournalError, MAX_BATCH, SyncMode};
+use stm_machine::Checkpoint;
+use stm_store::Table;
+
+/// How each history begins.
+pub(crate) const HISTORY_FRONT: &[u8] = b"{\"format\":";
+
+/// The file of a history, whether it has its first lines, and the format that these say or are to say.
+#[derive(Drop)]
+pub struct HistoryFile<D: Device> {
+    pub journal: Journal<D>,
+    pub begun: bool,
+    pub format: u32,
+}
+
+/// The bytes of a batch.
+fn batch_of(
+    alloc: Global,
+    begun: bool,
+    format: u32,
+    table: &Table,
+    checkpoint: Option<&Checkpoint>,
+    events: &[Event],
+) -> Result<Vec<u8>, JournalError>
+    ensures ok { IfOk result (λ batch. batch.items
+        ≡ batch_text begun (lent_start format table.now checkpoint.entry) events.now) }
+    ensures err { IfErr result (λ e. e ≡ JournalError.NoMemory) }
+{
+    let mut batch = Vec::new(alloc);
+    if !begun && write_start(alloc, &mut batch, format, table, checkpoint).is_err() {
+        return Err(JournalError::NoMemory);
+    }
+    match write_events(alloc, &mut batch, events) {
+        Ok(()) => Ok(batch),
+        Err(_) => Err(JournalError::NoMemory),
+    }
+}
+
+/// Adds a batch to a journal, and syncs it as its place in the file asks for.
+fn add_batch<D: Device>(
+    journal: &mut Journal<D>,
+    begun: bool,
+    batch: &[u8],
+) -> Result<(), JournalError>
+    requires at_rest { IsAtRest D.disk journal.old }
+    requires empty { begun ≡ false → Shows D.disk journal.old.device [] }
+    requires lines { IsWhole batch.now }
+    requires room { length batch.now ≤ most_batch }
+    requires front { begun ≡ false → take 10 batch.now ≡ history_front }
+    ensures added { OnOk result (Shows D.disk journal.new.device (D.disk.seen journal.old.device ++ batch.now)) }
+    ensures at_rest { OnOk result (IsAtRest D.disk journal.new) }
+    ensures sync { journal.new.sync ≡ journal.old.sync }
+    ensures any_moment { CrashLeaves D.disk journal.old.device journal.new.device
+        (MayLeave (batch_sync journal.old.sync begun) D.disk.fills_with_zeros (D.disk.seen journal.old.device) batch.now) }
+    ensures left { IsTrue D.disk.is_honest
+        → MayLeave (batch_sync journal.old.sync begun) D.disk.fills_with_zeros (D.disk.seen journal.old.device) batch.now
+        (D.disk.seen journal.new.device) }
+    // The first batch leaves a file in which it is begun, or all of it but for its first byte.
+    ensures begun_moment { begun ≡ false → journal.old.sync ≢ SyncMode.Never
+        → CrashLeaves D.disk journal.old.device journal.new.device (IsBegunOrWhole batch.now) }
+    ensures begun_left { begun ≡ false → journal.old.sync ≢ SyncMode.Never → IsTrue D.disk.is_honest
+        → IsBegunOrWhole batch.now (D.disk.seen journal.new.device) }
+    ensures fault { FailsOnlyIf D.disk journal.old.device journal.new.device (record {
+      full = 2 ^ 62 < length (D.disk.seen journal.old.device) + length batch.now;
+      too_long = ⊥;
+      torn_too_long = ⊥;
+    }) result }
+{
+    if begun {
+        return journal.append(batch);
+    }
+    match journal.sync {
+        SyncMode::Never => journal.append(batch),
+        SyncMode::Full | SyncMode::Append => journal.append_first(batch, HISTORY_FRONT.len()),
+    }
+}
+
+impl<D: Device> HistoryFile<D> {
+    /// Records events after those that the file has, as one batch. The first batch also has the lines before the events, even if
+    /// there is no event, in the format of the file.
+    ///
+    /// A batch of more than 1 MiB is refused as `TooLong`, before anything is written; the caller records fewer events at a
+    /// time. After any other error than `TooLong`, `NoMemory` and `Full` nothing more can be recorded: open the file again.
+    pub fn record(
+        &mut self,
+        alloc: Global,
+        table: &Table,
+        checkpoint: Option<&Checkpoint>,
+        events: &[Event],
+    ) -> Result<(), JournalError>
+        requires kept { KeepsSome D.disk self.old (lent_start self.old.format table.now checkpoint) }
+        requires fit { (s : Slow) × FitLines (lent_start self.old.format table.now checkpoint) s events.now }
+        ensures recorded { OnOk result (Records D.disk self.old self.new (lent_start self.old.format table.now checkpoint.entry) events.now) }
+        ensures begun { OnOk result (self.new.begun ≡ true) }
+        ensures sync { self.new.journal.sync ≡ self.old.journal.sync }
+        ensures format { self.new.format ≡ self.old.format }
+        // The lines that were recorded are no longer than a line of a history may be.
+        ensures short { OnOk result ((s : Slow) → FitLines (lent_start self.old.format table.now checkpoint.entry) s events.now
+            → AreEvents self.old.format s events.now) }
+        ensures refused { RefusesLongEvents self.old self.new (lent_start self.old.format table.now checkpoint.entry) events.now result }
+        // A crash at any moment, and an error, leave the history from before, and of these events what the sync mode promises.
+        ensures any_moment { LeavesAtAnyMoment D.disk self.old self.new (lent_start self.old.format table.now checkpoint.entry) events.now }
+        // None of these is foreign, unless a crash tears the byte that opens the first batch.
+        ensures own { LeavesOwn D.disk self.old self.new (lent_start self.old.format table.now checkpoint.entry) events.now }
+        ensures fault { RecordsUnless D.disk self.old self.new (lent_start self.old.format table.now checkpoint.entry) events.now result }
+    {
+        let batch = match batch_of(alloc, self.begun, self.format, table, checkpoint, events) {
+            Ok(batch) => batch,
+            Err(error) => return Err(error),
+        };
+        if batch.len() > MAX_BATCH {
+            return Err(JournalError::TooLong);
+        }
+        match add_batch(&mut self.journal, self.begun, &batch) {
+            Ok(()) => {
+                self.begun = true;
+                Ok(())
+            }
+            Err(error) => Err(error),
+        }
+    }
+}

@@ -1,0 +1,255 @@
+//! A file of a history, opened again.
+
+ghost use Rattle.std.specs.Prelude.{◌≡◌, ◌⊎◌, ◌≤◌, ◌<◌, ◌+◌, ◌^◌, None, Some, IsTrue, IfOk, IfErr, IfSome, MatchResult, length, take, drop};
+ghost use Rattle.stm_event_lines.specs.Lines.{latest_format};
+ghost use Rattle.stm_events.specs.Laws.{SubmittedAreWellTyped};
+ghost use Rattle.stm_events.specs.SlowDesk.{state_from};
+ghost use Rattle.stm_events.specs.States.{IsLegalFrom};
+ghost use Rattle.stm_history.specs.Loading.{HasText, ReportsLoadFault, loaded_start};
+ghost use Rattle.stm_history_text.specs.Starts.{BlocksAreOfText};
+ghost use Rattle.stm_history.specs.declared.files.loading.Loaded.{Loaded as AnyLoaded};
+ghost use Rattle.stm_journal.specs.Disk.{IsSettled, Reaches, FailsOnlyByReads};
+ghost use Rattle.stm_journal.specs.Journal.{HasFound, LeavesSameLines, ShowsSameLines, most_batch};
+ghost use Rattle.stm_journal.specs.Text.{recovered, dropped_count};
+ghost use Rattle.stm_machine.specs.Checkpoints.{MayStart, start_of};
+ghost use Rattle.stm_machine.specs.Machine.{IsAt};
+ghost use Rattle.stm_history_file.specs.Durable.{HasLoaded, LoadsFront, IsFormatFor, IsFormatOf, ReportsOpenFault, IsOfFile, IsForeign, MayNotOpen, JudgesUnless, RepairsUnless, LoadsUnless};
+
+use crate::recording::{HISTORY_FRONT, HistoryFile};
+use std::alloc::Global;
+use stm_event_lines::formats::LATEST_FORMAT;
+use stm_history::{LoadFault, Loaded, load_history};
+use stm_journal::{Device, FileReader, Found, Journal, JournalError, SyncMode, inspect, repair};
+use stm_store::Seed;
+
+/// Why a file isn't opened.
+#[derive(Clone, Copy, Debug, PartialEq, Eq, Drop)]
+pub enum OpenFault {
+    /// The disk failed, memory ran out, or more than a batch follows the whole lines.
+    Journal(JournalError),
+    /// Its whole lines are no legal history of format 3, 4 or 5.
+    History(LoadFault),
+    /// It has no line of a history, and doesn't begin as a first batch does: it is some other file.
+    Foreign,
+}
+
+/// A file that was opened: the file, the history that it has, if it has one, and what was found in it.
+#[derive(Drop)]
+pub struct Opened<D: Device> {
+    pub file: HistoryFile<D>,
+    pub loaded: Option<Loaded>,
+    pub found: Found,
+}
+
+/// Loads the first `len` bytes of a file.
+fn load_front<D: Device>(
+    alloc: Global,
+    seed: Seed,
+    device: &D,
+    len: usize,
+) -> Result<Option<Loaded>, LoadFault>
+    requires { Reaches D.disk device.now len }
+    ensures start { IfOk result (λ o. IfSome o (λ h. MayStart h.table h.checkpoint)) }
+    ensures legal { IfOk result (λ o. IfSome o (λ h.
+        IsLegalFrom (start_of h.table h.checkpoint) h.events.items)) }
+    ensures at { IfOk result (λ o. IfSome o (λ h. IsAt h.machine
+        (state_from (start_of h.table h.checkpoint) h.events.items))) }
+    ensures lines { IfOk result (λ o. IfSome o (λ h. HasText (loaded_start h) h.events.items)) }
+    ensures typed { IfOk result (λ o. IfSome o (λ h. SubmittedAreWellTyped h.events.items)) }
+    ensures blocks { IfOk result (λ o. IfSome o (λ h. IfSome h.checkpoint BlocksAreOfText)) }
+    ensures format { IfOk result (λ o. IfSome o (λ h. IsFormatFor h.format h.checkpoint h.events.items)) }
+    ensures text { IsTrue D.disk.is_honest → IfOk result (LoadsFront (take len (D.disk.seen device.now))) }
+    ensures fault { IsTrue D.disk.is_honest → IfErr result (λ e. ReportsLoadFault e (take len (D.disk.seen device.now))) }
+{
+    if len == 0 {
+        return Ok(None);
+    }
+    let mut reader = FileReader::new(device, len);
+    match load_history(alloc, seed, &mut reader) {
+        Ok(loaded) => Ok(Some(loaded)),
+        Err(fault) => Err(fault),
+    }
+}
+
+/// Whether a file has these bytes at a place.
+fn has_at<D: Device>(device: &D, at: usize, bytes: &[u8]) -> Result<bool, JournalError>
+    requires within { Reaches D.disk device.now at }
+    requires small { at + length bytes.now < 2 ^ 63 }
+    ensures yes { IsTrue D.disk.is_honest → IfOk result (λ b. IsTrue b → take (length bytes.now) (drop at (D.disk.seen device.now)) ≡ bytes.now) }
+    ensures no { IsTrue D.disk.is_honest → IfOk result (λ b. take (length bytes.now) (drop at (D.disk.seen device.now)) ≡ bytes.now → IsTrue b) }
+    ensures fault { FailsOnlyByReads D.disk device.now result }
+{
+    let mut found = [0u8; 1];
+    for (index, byte) in bytes.iter().enumerate() {
+        let count = device.read_at(at + index, &mut found)?;
+        if count == 0 || found[0] != *byte {
+            return Ok(false);
+        }
+    }
+    Ok(true)
+}
+
+/// Whether the file is some other one.
+fn is_foreign<D: Device>(device: &D, found: Found) -> Result<bool, JournalError>
+    requires { HasFound D.disk device.now found }
+    ensures yes { IsTrue D.disk.is_honest → IfOk result (λ b. IsTrue b → IsForeign (D.disk.seen device.now)) }
+    ensures no { IsTrue D.disk.is_honest → IfOk result (λ b. IsForeign (D.disk.seen device.now) → IsTrue b) }
+    ensures fault { FailsOnlyByReads D.disk device.now result }
+{
+    if found.kept > 0 || found.dropped < 2 {
+        return Ok(false);
+    }
+    if !has_at(device, 0, b"\0")? {
+        return Ok(true);
+    }
+    if found.dropped < 3 {
+        return Ok(false);
+    }
+    if !has_at(device, 1, &HISTORY_FRONT[1..2])? {
+        return Ok(true);
+    }
+    if found.dropped <= HISTORY_FRONT.len() {
+        return Ok(false);
+    }
+    Ok(!has_at(device, 2, &HISTORY_FRONT[2..])?)
+}
+
+/// Judges a file, which it leaves as it is: what is found in it, and the history whose text its whole lines are.
+fn judge<D: Device>(
+    alloc: Global,
+    seed: Seed,
+    device: &D,
+) -> Result<(Found, Option<Loaded>), OpenFault>
+    ensures found { IfOk result (λ r. HasFound D.disk device.now r.0) }
+    ensures start { IfOk result (λ r. IfSome r.1 (λ h. MayStart h.table h.checkpoint)) }
+    ensures legal { IfOk result (λ r. IfSome r.1 (λ h.
+        IsLegalFrom (start_of h.table h.checkpoint) h.events.items)) }
+    ensures at { IfOk result (λ r. IfSome r.1 (λ h. IsAt h.machine
+        (state_from (start_of h.table h.checkpoint) h.events.items))) }
+    ensures lines { IfOk result (λ r. IfSome r.1 (λ h. HasText (loaded_start h) h.events.items)) }
+    ensures typed { IfOk result (λ r. IfSome r.1 (λ h. SubmittedAreWellTyped h.events.items)) }
+    ensures blocks { IfOk result (λ r. IfSome r.1 (λ h. IfSome h.checkpoint BlocksAreOfText)) }
+    ensures format { IfOk result (λ r. IfSome r.1 (λ h. IsFormatFor h.format h.checkpoint h.events.items)) }
+    ensures text { IsTrue D.disk.is_honest → IfOk result (λ r. LoadsFront (recovered (D.disk.seen device.now)) r.1) }
+    ensures own { IsTrue D.disk.is_honest → IfOk result (λ _. IsForeign (D.disk.seen device.now) → ⊥) }
+    ensures reported { IsTrue D.disk.is_honest → IfErr result (λ e. ReportsOpenFault e (D.disk.seen device.now)) }
+    ensures fault { IfErr result (JudgesUnless D.disk device.now) }
+{
+    let found = match inspect(device) {
+        Ok(found) => found,
+        Err(error) => return Err(OpenFault::Journal(error)),
+    };
+    match is_foreign(device, found) {
+        Ok(false) => {}
+        Ok(true) => return Err(OpenFault::Foreign),
+        Err(error) => return Err(OpenFault::Journal(error)),
+    }
+    match load_front(alloc, seed, device, found.kept) {
+        Ok(loaded) => Ok((found, loaded)),
+        Err(fault) => Err(OpenFault::History(fault)),
+    }
+}
+
+/// The format of a file of which this was loaded: of one without a history the latest.
+fn format_of(loaded: &Option<Loaded>) -> u32
+    ensures none { loaded.now ≡ None → result ≡ latest_format }
+    ensures some { (h : AnyLoaded) → loaded.now ≡ Some h → result ≡ h.format }
+{
+    match loaded {
+        Some(loaded) => loaded.format,
+        None => LATEST_FORMAT,
+    }
+}
+
+/// Repairs a file, of whose whole lines this was loaded.
+fn repaired<D: Device>(
+    mut device: D,
+    sync: SyncMode,
+    found: Found,
+    loaded: Option<Loaded>,
+) -> Result<Opened<D>, (D, OpenFault)>
+    requires found { HasFound D.disk device found }
+    requires text { IsTrue D.disk.is_honest → LoadsFront (recovered (D.disk.seen device)) loaded }
+    requires format { IfSome loaded (λ h. IsFormatFor h.format h.checkpoint h.events.items) }
+    ensures loaded { IfOk result (λ r. r.loaded ≡ loaded) }
+    ensures found { IfOk result (λ r. r.found ≡ found) }
+    ensures sync { IfOk result (λ r. r.file.journal.sync ≡ sync) }
+    ensures format { IfOk result (λ r. IsFormatOf r.file.format r.loaded) }
+    ensures reported { IfErr result (λ e. ReportsOpenFault e.1 (D.disk.seen device)) }
+    ensures repair { IfErr result (λ e. IsOfFile e.1 → ⊥) }
+    ensures kept { IfOk result (λ r. IsSettled D.disk device → HasLoaded D.disk r.file loaded) }
+    ensures refused { IsTrue D.disk.is_honest → most_batch < dropped_count (D.disk.seen device)
+        → MatchResult result (λ _. ⊥) (λ e. e.0 ≡ device) }
+    ensures any_moment { IsSettled D.disk device → MatchResult result
+        (λ r. LeavesSameLines D.disk device r.file.journal.device) (λ e. LeavesSameLines D.disk device e.0) }
+    ensures left { IfErr result (λ e. ShowsSameLines D.disk device e.0) }
+    ensures fault { IfErr result (λ e. RepairsUnless D.disk device e.0 e.1) }
+{
+    match repair(&mut device, found) {
+        Ok(()) => {
+            let begun = loaded.is_some();
+            let journal = Journal {
+                device,
+                len: found.kept,
+                sync,
+            };
+            let format = format_of(&loaded);
+            let file = HistoryFile {
+                journal,
+                begun,
+                format,
+            };
+            Ok(Opened {
+                file,
+                loaded,
+                found,
+            })
+        }
+        Err(error) => Err((device, OpenFault::Journal(error))),
+    }
+}
+
+/// Opens a file that a crash may have left: loads the history whose text its whole lines are, and cuts what comes after them.
+/// A crash may come at any moment of it. After a sync that failed, settle the device first. The names of variables are looked up
+/// under the seed.
+///
+/// It judges before it cuts, and the first of these is the error: the disk, memory or the file's length; another file; the
+/// first error of its lines, or their format; a torn end of more than 1 MiB. An error returns the device, and the file is as it was,
+/// unless the disk failed.
+pub fn open_history<D: Device>(
+    alloc: Global,
+    seed: Seed,
+    device: D,
+    sync: SyncMode,
+) -> Result<Opened<D>, (D, OpenFault)>
+    // The history may begin where it does, and is legal from there, whatever the device is; and the machine is at the state that it
+    // leads to.
+    ensures start { IfOk result (λ r. IfSome r.loaded (λ h. MayStart h.table h.checkpoint)) }
+    ensures legal { IfOk result (λ r. IfSome r.loaded (λ h.
+        IsLegalFrom (start_of h.table h.checkpoint) h.events.items)) }
+    ensures at { IfOk result (λ r. IfSome r.loaded (λ h. IsAt h.machine
+        (state_from (start_of h.table h.checkpoint) h.events.items))) }
+    ensures lines { IfOk result (λ r. IfSome r.loaded (λ h. HasText (loaded_start h) h.events.items)) }
+    ensures typed { IfOk result (λ r. IfSome r.loaded (λ h. SubmittedAreWellTyped h.events.items)) }
+    ensures blocks { IfOk result (λ r. IfSome r.loaded (λ h. IfSome h.checkpoint BlocksAreOfText)) }
+    // Its text is the file's whole lines, and the file then has exactly this text.
+    ensures loaded { IsTrue D.disk.is_honest → IfOk result (λ r. LoadsFront (recovered (D.disk.seen device)) r.loaded) }
+    ensures kept { IfOk result (λ r. IsSettled D.disk device → HasLoaded D.disk r.file r.loaded) }
+    ensures sync { IfOk result (λ r. r.file.journal.sync ≡ sync) }
+    ensures format { IfOk result (λ r. IsFormatOf r.file.format r.loaded) }
+    ensures dropped { IsTrue D.disk.is_honest → IfOk result (λ r. r.found.dropped ≡ dropped_count (D.disk.seen device)) }
+    // Otherwise the first error is reported. Another file is never opened, and what was judged is left as it was.
+    ensures reported { IsTrue D.disk.is_honest → IfErr result (λ e. ReportsOpenFault e.1 (D.disk.seen device)) }
+    ensures unchanged { IfErr result (λ e. IsOfFile e.1 → e.0 ≡ device) }
+    ensures refused { IsTrue D.disk.is_honest → MayNotOpen (D.disk.seen device) → MatchResult result (λ _. ⊥) (λ e. e.0 ≡ device) }
+    // A crash at any moment, and an error, leave what a crash might have left before the call, or the same lines.
+    ensures any_moment { IsSettled D.disk device → MatchResult result
+        (λ r. LeavesSameLines D.disk device r.file.journal.device) (λ e. LeavesSameLines D.disk device e.0) }
+    ensures left { IfErr result (λ e. ShowsSameLines D.disk device e.0) }
+    ensures fault { IfErr result (λ e. LoadsUnless D.disk device e.0 e.1) }
+{
+    match judge(alloc, seed, &device) {
+        Ok((found, loaded)) => repaired(device, sync, found, loaded),
+        Err(fault) => Err((device, fault)),
+    }
+}
