@@ -16,9 +16,9 @@ use Rattle.stm_history_file.specs.declared.resuming.OpenFault.TheVariants.{Journ
 use Rattle.stm_lines.specs.Lines.{lines_of}
 use Rattle.stm_run.specs.declared.console.Console.{Console}
 use Rattle.stm_run.specs.LineCheckpoints.{Turn, turn_lines, line_step, answer_by, state_after_turn, answers_by, ForTurns}
-use Rattle.stm_durable_run.specs.DurableRun.{durable_status}
-use Rattle.stm_durable_run.specs.declared.fault.DurableFault.{DurableFault}
-use Rattle.stm_durable_run.specs.declared.fault.DurableFault.TheVariants as durable_fault
+use Rattle.stm_journaled_run.specs.DurableRun.{durable_status}
+use Rattle.stm_journaled_run.specs.declared.fault.DurableFault.{DurableFault}
+use Rattle.stm_journaled_run.specs.declared.fault.DurableFault.TheVariants as durable_fault
 use Rattle.stm_console.specs.ExitStatus.{IsFailure}
 use Rattle.stm_console.specs.Journal.{HasNoHistory, IsFaultOfBytes, open_status, unopened_status}
 use Rattle.stm_console.specs.declared.files.OpenError.{OpenError}

@@ -6,7 +6,7 @@ use Rattle.stm_journal.specs.Text.{recovered}
 use Rattle.stm_history_file.specs.Durable.{LoadsFront}
 use Rattle.stm_run.specs.Console.{console_text}
 use Rattle.stm_run.specs.LineCheckpoints.{answers_by}
-use Rattle.stm_durable_run.specs.DurableRun.{resumed_console}
+use Rattle.stm_journaled_run.specs.DurableRun.{resumed_console}
 use Rattle.stm_storm.specs.StormText.{IsStormText}
 use Rattle.stm_exploration.specs.ExploreEnd.{WritesRight}
 use Rattle.stm_options.specs.declared.explore_options.ExploreOptions.{ExploreOptions}

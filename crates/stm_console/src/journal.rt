@@ -1,7 +1,7 @@
 //! A run that keeps its history in a file.
 
 ghost use Rattle.std.specs.Prelude.{◌≡◌, ◌≤◌, ℕ, List, Option, None, IsTrue, IfSome, length};
-ghost use Rattle.stm_durable_run.specs.DurableRun.{durable_status};
+ghost use Rattle.stm_journaled_run.specs.DurableRun.{durable_status};
 ghost use Rattle.stm_journal.specs.Disk.{IsSettled};
 ghost use Rattle.stm_console.specs.Journal.{load_status, open_status, unopened_status, journal_status};
 ghost use Rattle.stm_console.specs.Program.{RunsOn, streams};
@@ -13,10 +13,10 @@ use std::alloc::Global;
 use std::io::{Read, Write};
 use std::random::RandomSource;
 use std::thread::Threads;
-use stm_durable_run::{DurableFault, run_durable};
 use stm_history::{HistoryFault, LoadFault, Loaded};
 use stm_history_file::{OpenFault, Opened, open_history};
 use stm_journal::{JournalError, Replace, SyncMode};
+use stm_journaled_run::{DurableFault, run_durable};
 use stm_lines::RunFault;
 use stm_options::Options;
 use stm_store::Seed;
@@ -200,7 +200,7 @@ fn run_on_device<T: Threads + RandomSource + Sync, D: Replace + Drop, R: Read, W
     }
 }
 
-/// Opens the file of this name, and goes on from the history that it has (`stm_durable_run`), or begins one.
+/// Opens the file of this name, and goes on from the history that it has (`stm_journaled_run`), or begins one.
 ///
 /// A file that has no history is left as it was, and so is one whose history is full, but for what comes after its last whole
 /// line. What the file has at the end, and what a crash may leave of it, is in the contract of `run_durable`: the file is opened

@@ -1,7 +1,7 @@
 //! The program over its words and streams.
 //!
 //! `start` (`program`) reads the words (`stm_command_line`) and does what they ask for: a run (`stm_run`), a run that keeps its history
-//! in a file (`journal`, `stm_durable_run`), a storm (`stm_storm`), an exploration (`stm_exploration`), or a check of a history
+//! in a file (`journal`, `stm_journaled_run`), a storm (`stm_storm`), an exploration (`stm_exploration`), or a check of a history
 //! (`checking`, and `why` with reasons), and returns the exit status. `files` is how it opens files. The public calls of these
 //! crates are named again here.
 //!

@@ -7,9 +7,9 @@ use std::alloc::Global;
 use std::random::RandomSource;
 use std::test::Fail;
 use std::thread::Threads;
-use stm_durable_run::{DurableFault, run_durable};
 use stm_history_file::{Opened, open_history};
 use stm_journal::{Device, JournalError, Memory, Replace, ReplaceError, SyncMode};
+use stm_journaled_run::{DurableFault, run_durable};
 use stm_options::Options;
 use stm_store::Seed;
 

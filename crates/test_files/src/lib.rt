@@ -2,7 +2,7 @@
 //!
 //! What is shown here no program does by a script, and no contract says: that calls succeed, and what files and devices in memory have
 //! after them. Each module tests one crate: `journal` `stm_journal`, `lines` `stm_event_lines`, `history_file` `stm_history_file`, and
-//! `journaled_run` `stm_durable_run`. `disk` is a device that runs out of space.
+//! `journaled_run` `stm_journaled_run`. `disk` is a device that runs out of space.
 #![tactic(auto)]
 
 #[cfg(test)]

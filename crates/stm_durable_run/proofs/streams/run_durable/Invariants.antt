@@ -1,4 +1,0 @@
-use Rattle.stm_durable_run.proofs.streams.run_durable.Given as goal
-
-abbrev pub ghosts-run_begun : goal.ghosts-run_begun
-ghosts-run_begun g a = record { name = a.blank.name; parts = a.blank.parts }
