@@ -14,9 +14,9 @@ use Rattle.stm_lines.specs.declared.run_fault.RunFault.TheVariants as run_fault
 use Rattle.stm_run.specs.Console.{console_text}
 use Rattle.stm_storm.specs.declared.storming.StormFault.{StormFault}
 use Rattle.stm_storm.specs.declared.storming.StormFault.TheVariants as storm_fault
-use Rattle.stm_exploration.specs.ExploreStatus.{explore_status}
-use Rattle.stm_exploration.specs.declared.exploring.ExploreFault.{ExploreFault}
-use Rattle.stm_exploration.specs.declared.exploring.ExploreFault.TheVariants as explore_fault
+use Rattle.stm_explore_script.specs.ExploreStatus.{explore_status}
+use Rattle.stm_explore_script.specs.declared.exploring.ExploreFault.{ExploreFault}
+use Rattle.stm_explore_script.specs.declared.exploring.ExploreFault.TheVariants as explore_fault
 use Rattle.stm_command_line.specs.CommandLine.{answers_of, are_mistakes, is_help, is_mistake, is_version, request_of, version_line}
 use Rattle.stm_command_line.specs.declared.command_line.Request.{Request}
 use Rattle.stm_command_line.specs.declared.command_line.Request.TheVariants.{Run, RunOn, Storm, Explore, Check, CheckWhy}

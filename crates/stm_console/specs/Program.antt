@@ -13,7 +13,7 @@ use Rattle.stm_run.specs.LineCheckpoints.{Turn, answers_by, ForTurns}
 use Rattle.stm_options.specs.declared.options.Options.{Options}
 use Rattle.stm_journaled_run.specs.DurableRun.{resumed_console}
 use Rattle.stm_storm.specs.StormText.{IsFailedStormText, IsStormText}
-use Rattle.stm_exploration.specs.ExploreEnd.{WritesRight}
+use Rattle.stm_explore_script.specs.ExploreEnd.{WritesRight}
 use Rattle.stm_command_line.specs.CommandLine.{answers_of, are_mistakes, is_help, is_version, request_of, version_line}
 use Rattle.stm_command_line.specs.declared.command_line.Request.{Request}
 use Rattle.stm_command_line.specs.declared.command_line.Request.TheVariants.{Run, RunOn, Storm, Explore, Check, CheckWhy}

@@ -8,7 +8,7 @@ use Rattle.stm_run.specs.Console.{console_text}
 use Rattle.stm_run.specs.LineCheckpoints.{answers_by}
 use Rattle.stm_journaled_run.specs.DurableRun.{resumed_console}
 use Rattle.stm_storm.specs.StormText.{IsStormText}
-use Rattle.stm_exploration.specs.ExploreEnd.{WritesRight}
+use Rattle.stm_explore_script.specs.ExploreEnd.{WritesRight}
 use Rattle.stm_options.specs.declared.explore_options.ExploreOptions.{ExploreOptions}
 use Rattle.stm_options.specs.declared.options.Options.{Options}
 use Rattle.stm_command_line.specs.CommandLine.{answers_of, asks_for_help, asks_for_version, has_mistake, request_of, version_line}

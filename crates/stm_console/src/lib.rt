@@ -1,7 +1,7 @@
 //! The program over its words and streams.
 //!
 //! `start` (`program`) reads the words (`stm_command_line`) and does what they ask for: a run (`stm_run`), a run that keeps its history
-//! in a file (`journal`, `stm_journaled_run`), a storm (`stm_storm`), an exploration (`stm_exploration`), or a check of a history
+//! in a file (`journal`, `stm_journaled_run`), a storm (`stm_storm`), an exploration (`stm_explore_script`), or a check of a history
 //! (`checking`, and `why` with reasons), and returns the exit status. `files` is how it opens files. The public calls of these
 //! crates are named again here.
 //!
@@ -23,7 +23,7 @@ pub use checking::{Finding, check, check_with};
 pub use files::{JournalFiles, OpenError};
 pub use program::start;
 pub use stm_command_line::version;
-pub use stm_exploration::{ExploreFault, exploring, write_exploration, write_fault_history};
+pub use stm_explore_script::{ExploreFault, exploring, write_exploration, write_fault_history};
 pub use stm_lines::{RunFault, Steps, steps};
 pub use stm_options::{ExploreOptions, Options, explore_options, options};
 pub use stm_run::{run, run_counted};

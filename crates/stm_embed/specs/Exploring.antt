@@ -3,8 +3,8 @@ use Rattle.std.specs.Prelude.{◌≡◌, ℕ, Bool, true, false, List, [], Err}
 use Rattle.stm_explore.specs.declared.explored.Outcome.{Outcome}
 use Rattle.stm_explore.specs.declared.explored.Outcome.TheVariants as outcome
 use Rattle.stm_options.specs.declared.explore_options.ExploreOptions.{ExploreOptions}
-use Rattle.stm_exploration.specs.ExploreEnd.{CameTo, IsExploredText, IsFaultHistory, IsFaulty}
-use Rattle.stm_exploration.specs.ExploreScript.{explore_script}
+use Rattle.stm_explore_script.specs.ExploreEnd.{CameTo, IsExploredText, IsFaultHistory, IsFaulty}
+use Rattle.stm_explore_script.specs.ExploreScript.{explore_script}
 use Rattle.stm_embed.specs.declared.exploring.Ended.{Ended}
 use Rattle.stm_embed.specs.declared.exploring.Ended.TheVariants.{Right, Faulty, Incomplete, BadScript, NoRoom}
 use Rattle.stm_embed.specs.declared.exploring.Wanted.{Wanted}

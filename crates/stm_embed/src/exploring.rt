@@ -6,7 +6,7 @@ ghost use Rattle.stm_embed.specs.Status.{no_memory};
 
 use crate::status::{BAD_SCRIPT, FAULTY, INCOMPLETE, NO_ROOM, RIGHT};
 use std::alloc::{AllocError, Global};
-use stm_exploration::{ExploreFault, write_exploration, write_fault_history};
+use stm_explore_script::{ExploreFault, write_exploration, write_fault_history};
 use stm_options::ExploreOptions;
 use stm_script::ScriptFault;
 use stm_store::Seed;
