@@ -1,7 +1,7 @@
 use Rattle.std.proofs.Common.{ℕ, List, [], ◌∷◌, ◌++◌, ap, ◌∙◌}
 use Rattle.stm_terms.specs.declared.kinds.Ty.{Ty}
-use Rattle.stm_calls.proofs.TableUses.{uses_next}
-use Rattle.stm_calls.proofs.checkpoints.uses_of.Goals as goal
+use Rattle.test_calls.proofs.TableUses.{uses_next}
+use Rattle.test_calls.proofs.checkpoints.uses_of.Goals as goal
 
 pub loop-id-preserved : goal.loop-id-preserved
 loop-id-preserved c =

@@ -5,7 +5,7 @@ use denote.Param.Send.{IsSend, IsSync, sendable}
 use Rattle.std.specs.declared.sync.ledger.Ledger.{Ghosts}
 use Rattle.std.proofs.Crossing.{crosses}
 use Rattle.stm_pool.proofs.Crosses.{pass_send, shared_sync}
-use Rattle.stm_calls.specs.contracts.pool_gate.Errand as errand
+use Rattle.test_calls.specs.contracts.pool_gate.Errand as errand
 
 module _ (κ : NamedLft) (L R : RattleType) (g : Ghosts L.Denot) where
   pub errand_send : IsSync R → IsSend (errand.the_row κ L R g)

@@ -1,7 +1,7 @@
 use Rattle.std.proofs.Common.{refl}
 use Rattle.stm_machine.specs.Checkpoints.{checkpoint_state}
 use Rattle.stm_machine.proofs.CheckpointStates.{checkpoints_are_possible}
-use Rattle.stm_calls.proofs.checkpoints.answer_machine.Goals as goal
+use Rattle.test_calls.proofs.checkpoints.answer_machine.Goals as goal
 
 pub say_taken-requires : goal.say_taken-requires
 say_taken-requires c =

@@ -1,7 +1,7 @@
 use Rattle.std.proofs.Common.{rules}
 use Rattle.stm_store.specs.Cells.{Covers}
-use Rattle.stm_calls.proofs.Covered.{covered_push}
-use Rattle.stm_calls.proofs.desk_work.push_copy.Goals as goal
+use Rattle.test_calls.proofs.Covered.{covered_push}
+use Rattle.test_calls.proofs.desk_work.push_copy.Goals as goal
 
 pub returns : goal.returns
 returns c =
