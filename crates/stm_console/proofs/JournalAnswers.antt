@@ -3,9 +3,9 @@ use Rattle.std.proofs.Common.{◌≡◌, ◌<◌, ℕ, Bool, List, [], ◌∷◌
 use Rattle.std.specs.Prelude.{◌⊎◌, IfSome, IsTrue, option_map}
 use Rattle.stm_terms.specs.Texts.{IsPrefixOf}
 use Rattle.std.specs.Io.KnownBytes.{Appends}
-use Rattle.stm_history.specs.declared.files.fault.HistoryFault.TheVariants as history_fault
-use Rattle.stm_history.specs.declared.files.loading.LoadFault.{LoadFault}
-use Rattle.stm_history.specs.declared.files.loading.LoadFault.TheVariants.{Fault, OldFormat}
+use Rattle.stm_history.specs.declared.fault.HistoryFault.TheVariants as history_fault
+use Rattle.stm_history.specs.declared.loading.LoadFault.{LoadFault}
+use Rattle.stm_history.specs.declared.loading.LoadFault.TheVariants.{Fault, OldFormat}
 use Rattle.stm_history.specs.Loading.{ReportsLoadFault}
 use Rattle.stm_journal.specs.declared.error.JournalError.TheVariants as journal_error
 use Rattle.stm_journal.specs.Journal.{most_batch}

@@ -1,8 +1,8 @@
 -- What `check` finds of bytes, and what it prints.
 use Rattle.std.specs.Prelude.{◌≡◌, ◌⊎◌, ℕ, List, [], ◌++◌, codes, decimal}
 use Rattle.stm_terms.specs.Texts.{IsPrefixOf}
-use Rattle.stm_history.specs.declared.files.fault.HistoryFault.TheVariants as fault
-use Rattle.stm_history.specs.declared.files.fault.Legal.{Legal}
+use Rattle.stm_history.specs.declared.fault.HistoryFault.TheVariants as fault
+use Rattle.stm_history.specs.declared.fault.Legal.{Legal}
 use Rattle.stm_history.specs.Judgement.{IsHistory, ReportsFault}
 use Rattle.stm_console.specs.declared.checking.Finding.{Finding}
 use Rattle.stm_console.specs.declared.checking.Finding.TheVariants.{Legal as LegalFound, BadHeader, BadLine, NotLegal}

@@ -1,8 +1,8 @@
 -- The file of a run that keeps its history: when it has none to go on from, and which status goes with that.
 use Rattle.std.specs.Prelude.{ℕ, ◌<◌, ◌⊎◌, ⊤, List}
-use Rattle.stm_history.specs.declared.files.fault.HistoryFault.TheVariants.{ReadFault, NoMemory as NoMemoryToLoad}
-use Rattle.stm_history.specs.declared.files.loading.LoadFault.{LoadFault}
-use Rattle.stm_history.specs.declared.files.loading.LoadFault.TheVariants.{Fault, OldFormat}
+use Rattle.stm_history.specs.declared.fault.HistoryFault.TheVariants.{ReadFault, NoMemory as NoMemoryToLoad}
+use Rattle.stm_history.specs.declared.loading.LoadFault.{LoadFault}
+use Rattle.stm_history.specs.declared.loading.LoadFault.TheVariants.{Fault, OldFormat}
 use Rattle.stm_history.specs.FileLaws.{IsOfBytes}
 use Rattle.stm_history.specs.Loading.{ReportsLoadFault}
 use Rattle.stm_journal.specs.declared.error.JournalError.{JournalError}

@@ -1,11 +1,11 @@
 -- What `check --why` prints.
 use Rattle.std.specs.Prelude.{◌≡◌, ◌⊎◌, ℕ, List, [], ◌∷◌, ◌++◌, codes, decimal, string_bytes}
 use Rattle.stm_terms.specs.Texts.{IsPrefixOf}
-use Rattle.stm_history.specs.declared.files.explanation.CallRefusal.{CallRefusal}
-use Rattle.stm_history.specs.declared.files.explanation.CallRefusal.TheVariants.{Submission, Delivery, Finish, Cancellation, Declaration, Labelling}
-use Rattle.stm_history.specs.declared.files.explanation.Explanation.{Explanation}
-use Rattle.stm_history.specs.declared.files.explanation.Explanation.TheVariants.{Expected, Refused, Unreadable}
-use Rattle.stm_history.specs.declared.files.fault.HistoryFault.TheVariants as fault
+use Rattle.stm_history.specs.declared.explanation.CallRefusal.{CallRefusal}
+use Rattle.stm_history.specs.declared.explanation.CallRefusal.TheVariants.{Submission, Delivery, Finish, Cancellation, Declaration, Labelling}
+use Rattle.stm_history.specs.declared.explanation.Explanation.{Explanation}
+use Rattle.stm_history.specs.declared.explanation.Explanation.TheVariants.{Expected, Refused, Unreadable}
+use Rattle.stm_history.specs.declared.fault.HistoryFault.TheVariants as fault
 use Rattle.stm_history.specs.Explanation.{ReportsWhy}
 use Rattle.stm_commands.specs.Refusals.{submit_error_text, deliver_error_text, finish_error_text, cancel_error_text, late_declare_error_text, label_error_text}
 use Rattle.stm_console.specs.declared.checking.Finding.{Finding}

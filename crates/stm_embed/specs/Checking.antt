@@ -1,7 +1,7 @@
 -- What a check finds of the bytes of a history, and how C gets it.
 use Rattle.std.specs.Prelude.{ℕ, List}
-use Rattle.stm_history.specs.declared.files.explanation.Explanation.{Explanation}
-use Rattle.stm_history.specs.declared.files.fault.HistoryFault.TheVariants as fault
+use Rattle.stm_history.specs.declared.explanation.Explanation.{Explanation}
+use Rattle.stm_history.specs.declared.fault.HistoryFault.TheVariants as fault
 use Rattle.stm_history.specs.Explanation.{ReportsWhy}
 use Rattle.stm_history.specs.Judgement.{IsHistory, ReportsFault}
 use Rattle.stm_embed.specs.declared.checking.Checked.{Checked}

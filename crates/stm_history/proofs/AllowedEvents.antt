@@ -24,7 +24,7 @@ use Rattle.stm_machine.specs.Checkpoints.{max_next}
 use Rattle.stm_machine.specs.JobsHandedOut.{IsPresent, block_at}
 use Rattle.stm_machine.specs.Machine.{Parts, IsAt, HasTicketLeft, MovesBy, event}
 use Rattle.stm_machine.specs.Plans.{IsPlan}
-use Rattle.stm_history.specs.declared.files.replayer.Replayer.{Replayer}
+use Rattle.stm_history.specs.declared.replayer.Replayer.{Replayer}
 use Rattle.stm_history.specs.Following.{Follows}
 use Rattle.stm_history_text.specs.Starts.{Start, first_state, state_after_start}
 

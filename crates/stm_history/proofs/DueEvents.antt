@@ -34,10 +34,10 @@ use Rattle.stm_events.specs.States.{IsLegalFrom}
 use Rattle.stm_machine.specs.JobsHandedOut.{IsPresent, block_at}
 use Rattle.stm_machine.specs.Machine.{IsAt, MayDeliver}
 use Rattle.stm_machine.proofs.Declaring.{may_declare}
-use Rattle.stm_history.specs.declared.files.explanation.CallRefusal.{CallRefusal}
-use Rattle.stm_history.specs.declared.files.expecting.Expectation.{Expectation}
-use Rattle.stm_history.specs.declared.files.expecting.Expectation.TheVariants.{Due, Refuses}
-use Rattle.stm_history.specs.declared.files.replayer.Replayer.{Replayer}
+use Rattle.stm_history.specs.declared.explanation.CallRefusal.{CallRefusal}
+use Rattle.stm_history.specs.declared.expecting.Expectation.{Expectation}
+use Rattle.stm_history.specs.declared.expecting.Expectation.TheVariants.{Due, Refuses}
+use Rattle.stm_history.specs.declared.replayer.Replayer.{Replayer}
 use Rattle.stm_history.specs.Expecting.{IsDueOn, IsDueAfter}
 use Rattle.stm_history.specs.Explanation.{deliver_first, deliver_refused, is_history_full}
 use Rattle.stm_history.specs.Following.{Follows}

@@ -10,7 +10,7 @@ use Rattle.stm_events.specs.declared.event.What.TheVariants.{Submitted, Installe
 use Rattle.stm_events.specs.Refusals.{submit_refused, cancel_refused, finish_refused, late_declare_refused, label_refused}
 use Rattle.stm_events.specs.SlowDesk.{Waiter, Slow, Allows, MayInstall, MayFinish, find_waiter, stale_after, waking, without_waiter}
 use Rattle.stm_terms.specs.Limits.{max_events}
-use Rattle.stm_history.specs.declared.files.explanation.CallRefusal.TheVariants.{Submission, Delivery, Finish, Cancellation, Declaration, Labelling}
+use Rattle.stm_history.specs.declared.explanation.CallRefusal.TheVariants.{Submission, Delivery, Finish, Cancellation, Declaration, Labelling}
 use Rattle.stm_history_text.specs.Starts.{state_after_start}
 use Rattle.stm_history.specs.Explanation.{IsSameCall, deliver_first, deliver_refused, expected_what, finish_with, is_history_full, present_verdict, call_refusal, OneEventOfACall, RefusedAreIllegal}
 use Rattle.stm_history.proofs.AllowedIsNotRefused.{submit_not_refused, cancel_not_refused, declare_not_refused, label_not_refused, finish_not_refused}

@@ -3,8 +3,8 @@ use Rattle.std.proofs.Common.{◌≡◌, ℕ, List, [], ◌∷◌, ◌++◌, ref
 use Rattle.stm_events.specs.declared.event.Event.{Event}
 use Rattle.stm_machine.specs.Machine.{event}
 use Rattle.stm_history_text.specs.Starts.{Start, names_after}
-use Rattle.stm_history.specs.declared.files.explanation.Explanation.{Explanation}
-use Rattle.stm_history.specs.declared.files.explanation.Explanation.TheVariants.{Expected, Refused, Unreadable}
+use Rattle.stm_history.specs.declared.explanation.Explanation.{Explanation}
+use Rattle.stm_history.specs.declared.explanation.Explanation.TheVariants.{Expected, Refused, Unreadable}
 use Rattle.stm_history.specs.Checking.{CheckerState, at_header, at_variables, at_cells, at_blocks, at_events, LeadsTo}
 use Rattle.stm_history.specs.Explanation.{CanStand, Explains, ExplainsEvent, ExplainsHead, ExpectedLeadsOn, IsExpectedText}
 use Rattle.stm_history.specs.Judgement.{IsShort}

@@ -13,15 +13,15 @@ use Rattle.stm_events.specs.declared.kept_cause.KeptCause.{KeptCause}
 use Rattle.stm_terms.specs.Limits.{max_clients}
 use Rattle.stm_machine.specs.Checkpoints.{CheckpointView, MayAdd, checkpoint_block}
 use Rattle.stm_machine.specs.Machine.{event}
-use Rattle.stm_history.specs.declared.files.check.Stage.TheVariants.{Running}
-use Rattle.stm_history.specs.declared.files.replayer.Replayer.{Replayer}
+use Rattle.stm_history.specs.declared.check.Stage.TheVariants.{Running}
+use Rattle.stm_history.specs.declared.replayer.Replayer.{Replayer}
 use Rattle.stm_history.specs.Following.{Follows}
 use Rattle.stm_history.specs.Stages.{IsStage}
 use Rattle.stm_history_text.specs.Starts.{Start, delivery_of_block, is_plain_block, names_after}
-use Rattle.stm_history.specs.declared.files.expecting.Expectation.{Expectation}
-use Rattle.stm_history.specs.declared.files.expecting.Expectation.TheVariants.{Due}
-use Rattle.stm_history.specs.declared.files.explanation.Explanation.{Explanation}
-use Rattle.stm_history.specs.declared.files.explanation.Explanation.TheVariants.{Expected, Refused, Unreadable}
+use Rattle.stm_history.specs.declared.expecting.Expectation.{Expectation}
+use Rattle.stm_history.specs.declared.expecting.Expectation.TheVariants.{Due}
+use Rattle.stm_history.specs.declared.explanation.Explanation.{Explanation}
+use Rattle.stm_history.specs.declared.explanation.Explanation.TheVariants.{Expected, Refused, Unreadable}
 use Rattle.stm_history.specs.Checking.{CheckerState, at_variables, at_cells, at_blocks, at_events, with_table, with_cells, with_blocks, with_name_of, LeadsTo, MayTakeCell}
 use Rattle.stm_history.specs.Expecting.{HasCheckedBlock, IsDueAfter, IsLineOf, IsShortOr}
 use Rattle.stm_history.specs.Explanation.{Explains, ExplainsEvent, ExplainsHead, IsCallDue, IsReadAs, IsSameCall}

@@ -1,8 +1,8 @@
 -- Bytes have one first fault, and none if they are the text of a legal history.
 use Rattle.std.proofs.Common.{◌≡◌, ℕ, ◌<◌, List, [], ◌∷◌, ◌++◌, length, refl, sym, ap, ◌∙◌, subst, arith, length-append}
 use Rattle.stm_events.specs.declared.event.Event.{Event}
-use Rattle.stm_history.specs.declared.files.fault.HistoryFault.{HistoryFault}
-use Rattle.stm_history.specs.declared.files.fault.HistoryFault.TheVariants.{ReadFault, BadHeader, BadLine, NotLegal, NoMemory}
+use Rattle.stm_history.specs.declared.fault.HistoryFault.{HistoryFault}
+use Rattle.stm_history.specs.declared.fault.HistoryFault.TheVariants.{ReadFault, BadHeader, BadLine, NotLegal, NoMemory}
 use Rattle.stm_events.specs.States.{IsLegalFrom}
 use Rattle.stm_event_lines.specs.Fits.{FitsNames, FitsFormat}
 use Rattle.stm_event_lines.specs.Lines.{event_line}

@@ -5,9 +5,9 @@ use Rattle.std.proofs.lemmas.List.Elements.{All-head, All-tail}
 use Rattle.std.specs.Io.KnownBytes.{Consumes, prepend_known}
 use Rattle.stm_lines.specs.Lines.{NoLineFeed}
 use Rattle.stm_lines.specs.TakenLines.{TakesPartOfLine, TakesLastLine, TakesWholeLine}
-use Rattle.stm_history.specs.declared.files.check.Stage.{Stage}
-use Rattle.stm_history.specs.declared.files.fault.HistoryFault.{HistoryFault}
-use Rattle.stm_history.specs.declared.files.fault.HistoryFault.TheVariants.{ReadFault, NoMemory, BadHeader, BadLine, NotLegal}
+use Rattle.stm_history.specs.declared.check.Stage.{Stage}
+use Rattle.stm_history.specs.declared.fault.HistoryFault.{HistoryFault}
+use Rattle.stm_history.specs.declared.fault.HistoryFault.TheVariants.{ReadFault, NoMemory, BadHeader, BadLine, NotLegal}
 use Rattle.stm_history.specs.Checking.{CheckerState, MayRefuse, NoFeed, StopsAt, strange}
 use Rattle.stm_history.specs.Judgement.{IsShort, ReportsFault, max_line}
 use Rattle.stm_history.specs.Reading.{FailsIn, IsReadingFault, TakesLine, TakesRest}

@@ -21,7 +21,7 @@ use Rattle.stm_event_lines.specs.Fits.{FitsNames, FitsFormat, Is32Bit}
 use Rattle.stm_event_lines.specs.Lines.{IsFormat, event_line, header_line, variable_line}
 use Rattle.stm_event_lines.proofs.Checkpoints.{checkpoint_header_new, checkpoint_header_one_line, checkpoint_header_same, waiting_one_line, waiting_same}
 use Rattle.stm_event_lines.proofs.ReadsBack.{event_one_line, header_one_line, variable_one_line, header_same, variable_same, event_same}
-use Rattle.stm_history.specs.declared.files.fault.HistoryFault.TheVariants.{BadHeader}
+use Rattle.stm_history.specs.declared.fault.HistoryFault.TheVariants.{BadHeader}
 use Rattle.stm_history.specs.Checking.{AreCells}
 use Rattle.stm_history_text.specs.HistoryText.{block_line, block_lines, cell_lines, cells_text, checkpoint_text, event_lines, head_text, history_text, start_text, text_before, variable_lines}
 use Rattle.stm_history.specs.Judgement.{IsShort, AreVariables, AreVariablesFrom, AreEvents, BeginsWithHistory, FitBlocks, IsBefore, IsReadable, IsStart, NoEventNext, IsIllegalFrom, ReportsFault, numbers_from}

@@ -17,11 +17,11 @@ use Rattle.stm_event_lines.specs.CheckpointLines.{FitsCell, FitsWaiting, IsCheck
 use Rattle.stm_event_lines.specs.Fits.{Is32Bit}
 use Rattle.stm_event_lines.specs.Lines.{IsFormat, header_line}
 use Rattle.stm_event_lines.proofs.Checkpoints.{cell_same, checkpoint_header_same, waiting_same}
-use Rattle.stm_history.specs.declared.files.check.Stage.{Stage}
-use Rattle.stm_history.specs.declared.files.check.Stage.TheVariants.{Running}
-use Rattle.stm_history.specs.declared.files.fault.HistoryFault.{HistoryFault}
-use Rattle.stm_history.specs.declared.files.fault.HistoryFault.TheVariants.{BadHeader, BadLine, NoMemory}
-use Rattle.stm_history.specs.declared.files.replayer.Replayer.{Replayer}
+use Rattle.stm_history.specs.declared.check.Stage.{Stage}
+use Rattle.stm_history.specs.declared.check.Stage.TheVariants.{Running}
+use Rattle.stm_history.specs.declared.fault.HistoryFault.{HistoryFault}
+use Rattle.stm_history.specs.declared.fault.HistoryFault.TheVariants.{BadHeader, BadLine, NoMemory}
+use Rattle.stm_history.specs.declared.replayer.Replayer.{Replayer}
 use Rattle.stm_history.specs.Checking.{CheckerState, at_header, at_variables, at_cells, at_blocks, at_events, with_table, with_blocks, with_cells, IsCheckpointHead, LeadsTo, LeadsToCells, LinesUpTo, MayBeNamed, MayRefuse, strange, with_name_of}
 use Rattle.stm_history.specs.Following.{Follows}
 use Rattle.stm_history_text.specs.HistoryText.{block_line}

@@ -15,9 +15,9 @@ use Rattle.stm_machine.specs.declared.checkpoint.CheckpointBlock.{CheckpointBloc
 use Rattle.stm_machine.specs.Checkpoints.{CheckpointView, MayStart, start_of, started_by}
 use Rattle.stm_machine.specs.Machine.{Parts, IsAt}
 use Rattle.stm_event_lines.specs.Lines.{declaring_format, latest_format, rule_of}
-use Rattle.stm_history.specs.declared.files.check.Stage.TheVariants.{Running}
-use Rattle.stm_history.specs.declared.files.replayer.Replayer.{Replayer}
-use Rattle.stm_history.specs.declared.files.loading.LoadFault.TheVariants.{OldFormat}
+use Rattle.stm_history.specs.declared.check.Stage.TheVariants.{Running}
+use Rattle.stm_history.specs.declared.replayer.Replayer.{Replayer}
+use Rattle.stm_history.specs.declared.loading.LoadFault.TheVariants.{OldFormat}
 use Rattle.stm_history.specs.Checking.{CheckerState, at_events, LinesUpTo}
 use Rattle.stm_history.specs.Following.{Follows}
 use Rattle.stm_history.specs.Judgement.{AreEvents, FitBlocks, IsStart}

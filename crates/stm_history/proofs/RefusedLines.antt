@@ -19,11 +19,11 @@ use Rattle.stm_event_lines.proofs.Checkpoints.{cell_one_line, checkpoint_header_
 use Rattle.stm_event_lines.proofs.ReadsBack.{event_one_line, header_one_line, variable_one_line, event_same, header_same, variable_same}
 use Rattle.stm_history_text.specs.HistoryText.{block_line, block_lines, cell_lines, cells_text, checkpoint_text, history_text, start_text, text_before, variable_lines}
 use Rattle.stm_history.specs.Judgement.{IsShort, max_line, MayDeclare, AreVariablesFrom, IsBefore, IsReadable, IsStart, ReportsFault, IsHistory, numbers_from}
-use Rattle.stm_history.specs.declared.files.fault.HistoryFault.{HistoryFault}
-use Rattle.stm_history.specs.declared.files.fault.HistoryFault.TheVariants.{ReadFault, BadHeader, NoMemory}
-use Rattle.stm_history.specs.declared.files.fault.Legal.{Legal}
-use Rattle.stm_history.specs.declared.files.check.Stage.{Stage}
-use Rattle.stm_history.specs.declared.files.check.Stage.TheVariants.{Before, Declaring, AtCells, AtBlocks}
+use Rattle.stm_history.specs.declared.fault.HistoryFault.{HistoryFault}
+use Rattle.stm_history.specs.declared.fault.HistoryFault.TheVariants.{ReadFault, BadHeader, NoMemory}
+use Rattle.stm_history.specs.declared.fault.Legal.{Legal}
+use Rattle.stm_history.specs.declared.check.Stage.{Stage}
+use Rattle.stm_history.specs.declared.check.Stage.TheVariants.{Before, Declaring, AtCells, AtBlocks}
 use Rattle.stm_history.specs.Checking.{CheckerState, at_header, at_variables, at_cells, at_blocks, at_events, with_table, with_cells, with_blocks, with_name_of, IsCheckpointHead, LeadsTo, LeadsNowhere, LinesUpTo, MayTakeCell, NoLineNext, NoNext, NoFeed, IsStrange, strange, MayRefuse, HasTaken, IsFaultAt, StopsAt}
 use Rattle.stm_history.specs.Stages.{IsStage, Reached, LeadsToStage}
 use Rattle.stm_history_text.specs.Starts.{Start, delivery_of_block, names_after}

@@ -4,7 +4,7 @@ use Rattle.stm_store.specs.Tables.{Declared}
 use Rattle.stm_events.specs.declared.event.Event.{Event}
 use Rattle.stm_events.specs.SlowDesk.{IsLegal}
 use Rattle.stm_events.specs.States.{IsLegalFrom}
-use Rattle.stm_history.specs.declared.files.fault.HistoryFault.TheVariants.{NotLegal}
+use Rattle.stm_history.specs.declared.fault.HistoryFault.TheVariants.{NotLegal}
 use Rattle.stm_history.specs.Judgement.{IsIllegalFrom, Refuses}
 use Rattle.stm_history_text.specs.Starts.{first_state, table_start}
 use Rattle.stm_history_text.proofs.TextInParts.{cut_at}

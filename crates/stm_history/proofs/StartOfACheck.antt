@@ -1,6 +1,6 @@
 -- A check that has taken nothing yet.
 use Rattle.std.proofs.Common.{◌≡◌, ℕ, Bool, List, [], refl, sym, subst, arith}
-use Rattle.stm_history.specs.declared.files.check.Stage.TheVariants.{Before}
+use Rattle.stm_history.specs.declared.check.Stage.TheVariants.{Before}
 use Rattle.stm_history.specs.Checking.{at_header}
 use Rattle.stm_history.specs.Stages.{Reached}
 

@@ -1,10 +1,10 @@
 -- What is reported where lines stop being accepted.
 use Rattle.std.proofs.Common.{◌≡◌, ◌≢◌, ℕ, ◌++◌, ◌∷◌, List, [], take, drop, refl, sym, ap, ◌∙◌, subst, append-nil, ◌⊎◌, inl, inr}
 use Rattle.std.proofs.lemmas.List.{take-append-drop}
-use Rattle.stm_history.specs.declared.files.check.Stage.{Stage}
-use Rattle.stm_history.specs.declared.files.explanation.Explanation.{Explanation}
-use Rattle.stm_history.specs.declared.files.fault.HistoryFault.{HistoryFault}
-use Rattle.stm_history.specs.declared.files.fault.HistoryFault.TheVariants.{NoMemory, ReadFault}
+use Rattle.stm_history.specs.declared.check.Stage.{Stage}
+use Rattle.stm_history.specs.declared.explanation.Explanation.{Explanation}
+use Rattle.stm_history.specs.declared.fault.HistoryFault.{HistoryFault}
+use Rattle.stm_history.specs.declared.fault.HistoryFault.TheVariants.{NoMemory, ReadFault}
 use Rattle.stm_history.specs.Checking.{CheckerState, at_header, at_variables, at_cells, at_blocks, at_events, Forbids, ForbidsNext, IsFaultAt, LinesUpTo, NoFeed, StopsAt, strange}
 use Rattle.stm_history.specs.Explanation.{Explains, IsAfterLine, ReportsWhy, line_after}
 use Rattle.stm_event_lines.specs.Lines.{event_line}

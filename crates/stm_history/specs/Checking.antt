@@ -14,8 +14,8 @@ use Rattle.stm_machine.specs.Checkpoints.{CheckpointView, MayAdd, max_next}
 use Rattle.stm_event_lines.specs.CheckpointLines.{FitsCell, FitsWaiting, IsCheckpointFormat, cell_line, checkpoint_format, checkpoint_header_line}
 use Rattle.stm_event_lines.specs.Fits.{FitsNames, FitsFormat}
 use Rattle.stm_event_lines.specs.Lines.{IsFormat, event_line, header_line, variable_line}
-use Rattle.stm_history.specs.declared.files.fault.HistoryFault.{HistoryFault}
-use Rattle.stm_history.specs.declared.files.fault.HistoryFault.TheVariants.{ReadFault, BadHeader, BadLine, NotLegal, NoMemory}
+use Rattle.stm_history.specs.declared.fault.HistoryFault.{HistoryFault}
+use Rattle.stm_history.specs.declared.fault.HistoryFault.TheVariants.{ReadFault, BadHeader, BadLine, NotLegal, NoMemory}
 use Rattle.stm_history_text.specs.HistoryText.{block_line, cells_text, checkpoint_text, head_text, history_text}
 use Rattle.stm_history.specs.Judgement.{IsShort, MayDeclare, AreVariables, AreEvents, FitCells, IsReadable, IsStart, NoEventNext, IsIllegalFrom, next_line}
 use Rattle.stm_history_text.specs.Starts.{Start, delivery_of_block, first_state, is_plain_block, names_after}

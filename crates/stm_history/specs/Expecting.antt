@@ -7,10 +7,10 @@ use Rattle.stm_events.specs.declared.event.What.{What}
 use Rattle.stm_events.specs.declared.event.What.TheVariants.{Submitted, Installed, Finished, Cancelled, Declared as DeclaredLate, Labelled}
 use Rattle.stm_events.specs.Labels.{is_label}
 use Rattle.stm_events.specs.SlowDesk.{Slow, Allows}
-use Rattle.stm_history.specs.declared.files.expecting.Expectation.{Expectation}
-use Rattle.stm_history.specs.declared.files.expecting.Expectation.TheVariants.{Due, Refuses}
-use Rattle.stm_history.specs.declared.files.explanation.Explanation.{Explanation}
-use Rattle.stm_history.specs.declared.files.explanation.Explanation.TheVariants.{Expected, Refused, Unreadable}
+use Rattle.stm_history.specs.declared.expecting.Expectation.{Expectation}
+use Rattle.stm_history.specs.declared.expecting.Expectation.TheVariants.{Due, Refuses}
+use Rattle.stm_history.specs.declared.explanation.Explanation.{Explanation}
+use Rattle.stm_history.specs.declared.explanation.Explanation.TheVariants.{Expected, Refused, Unreadable}
 use Rattle.stm_history.specs.Explanation.{CanStand, IsCallDue, IsSameCall, is_history_full, call_refusal}
 use Rattle.stm_history.specs.Judgement.{IsShort}
 use Rattle.stm_history_text.specs.Starts.{Start, state_after_start}

@@ -14,9 +14,9 @@ use Rattle.stm_machine.specs.Checkpoints.{CheckpointView}
 use Rattle.stm_event_lines.specs.CheckpointLines.{FitsCell, FitsWaiting, IsCheckpointFormat, cell_line, checkpoint_header_line, waiting_line}
 use Rattle.stm_event_lines.specs.Fits.{FitsNames, AreInRange, Is32Bit, IsOneLine, BeginsWithBrace}
 use Rattle.stm_event_lines.specs.Lines.{IsFormat, rule_of, event_line, header_line, variable_line}
-use Rattle.stm_history.specs.declared.files.fault.HistoryFault.{HistoryFault}
-use Rattle.stm_history.specs.declared.files.fault.HistoryFault.TheVariants.{ReadFault, BadHeader, BadLine, NotLegal, NoMemory}
-use Rattle.stm_history.specs.declared.files.fault.Legal.{Legal}
+use Rattle.stm_history.specs.declared.fault.HistoryFault.{HistoryFault}
+use Rattle.stm_history.specs.declared.fault.HistoryFault.TheVariants.{ReadFault, BadHeader, BadLine, NotLegal, NoMemory}
+use Rattle.stm_history.specs.declared.fault.Legal.{Legal}
 use Rattle.stm_history_text.specs.HistoryText.{history_text, start_text}
 use Rattle.stm_history.specs.Judgement.{FormatFits, IsHistory, IsStart, StartFits, ReportsFault, AreEvents, AreShortLines, numbers_from}
 use Rattle.stm_history.specs.Loading.{IsWholeHistory}

@@ -7,7 +7,7 @@ use Rattle.stm_events.specs.SlowDesk.{Slow, Allows}
 use Rattle.stm_events.specs.States.{IsLegalFrom}
 use Rattle.stm_machine.specs.Checkpoints.{max_next}
 use Rattle.stm_machine.specs.Machine.{Parts, IsAt}
-use Rattle.stm_history.specs.declared.files.replayer.Replayer.{Replayer}
+use Rattle.stm_history.specs.declared.replayer.Replayer.{Replayer}
 use Rattle.stm_history_text.specs.Starts.{Start, first_state, state_after_start}
 
 -- no state that the machine is at allows what happens

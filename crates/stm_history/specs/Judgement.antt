@@ -11,9 +11,9 @@ use Rattle.stm_machine.specs.Checkpoints.{CheckpointView, IsCheckpoint}
 use Rattle.stm_event_lines.specs.CheckpointLines.{FitsCell, FitsWaiting, IsCheckpointFormat, checkpoint_format}
 use Rattle.stm_event_lines.specs.Fits.{FitsNames, FitsFormat, FitsVariable}
 use Rattle.stm_event_lines.specs.Lines.{IsFormat, event_line}
-use Rattle.stm_history.specs.declared.files.fault.HistoryFault.{HistoryFault}
-use Rattle.stm_history.specs.declared.files.fault.HistoryFault.TheVariants.{ReadFault, BadHeader, BadLine, NotLegal, NoMemory}
-use Rattle.stm_history.specs.declared.files.fault.Legal.{Legal}
+use Rattle.stm_history.specs.declared.fault.HistoryFault.{HistoryFault}
+use Rattle.stm_history.specs.declared.fault.HistoryFault.TheVariants.{ReadFault, BadHeader, BadLine, NotLegal, NoMemory}
+use Rattle.stm_history.specs.declared.fault.Legal.{Legal}
 use Rattle.stm_history_text.specs.HistoryText.{block_line, history_text, start_text}
 use Rattle.stm_history_text.specs.Starts.{Start, are_plain_blocks, delivery_of_block, first_state, names_after, state_after_start}
 

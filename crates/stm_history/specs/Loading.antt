@@ -3,9 +3,9 @@ use Rattle.std.specs.Prelude.{◌≢◌, ℕ, List, [], None}
 use Rattle.stm_store.specs.Tables.{Declared}
 use Rattle.stm_events.specs.declared.event.Event.{Event}
 use Rattle.stm_event_lines.specs.Lines.{IsFormat, declaring_format, latest_format}
-use Rattle.stm_history.specs.declared.files.loading.LoadFault.{LoadFault}
-use Rattle.stm_history.specs.declared.files.loading.LoadFault.TheVariants.{Fault, OldFormat}
-use Rattle.stm_history.specs.declared.files.loading.Loaded.{Loaded}
+use Rattle.stm_history.specs.declared.loading.LoadFault.{LoadFault}
+use Rattle.stm_history.specs.declared.loading.LoadFault.TheVariants.{Fault, OldFormat}
+use Rattle.stm_history.specs.declared.loading.Loaded.{Loaded}
 use Rattle.stm_history.specs.Judgement.{BeginsWithHistory, ReportsFault}
 use Rattle.stm_history_text.specs.Starts.{Start}
 

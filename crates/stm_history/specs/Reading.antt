@@ -1,9 +1,9 @@
 -- What a check takes of its bytes, line by line.
 use Rattle.std.specs.Prelude.{◌≡◌, ℕ, ◌+◌, ◌<◌, ◌≤◌, List, [], ◌++◌, length, Option, IfSome}
 use Rattle.std.specs.Io.KnownBytes.{Consumes}
-use Rattle.stm_history.specs.declared.files.check.Stage.{Stage}
-use Rattle.stm_history.specs.declared.files.fault.HistoryFault.{HistoryFault}
-use Rattle.stm_history.specs.declared.files.fault.HistoryFault.TheVariants as fault
+use Rattle.stm_history.specs.declared.check.Stage.{Stage}
+use Rattle.stm_history.specs.declared.fault.HistoryFault.{HistoryFault}
+use Rattle.stm_history.specs.declared.fault.HistoryFault.TheVariants as fault
 use Rattle.stm_history.specs.Checking.{StopsAt}
 use Rattle.stm_history.specs.Judgement.{ReportsFault}
 use Rattle.stm_history.specs.Stages.{Reached}

@@ -9,10 +9,10 @@ use Rattle.stm_events.specs.declared.event.Event.{Event}
 use Rattle.stm_events.specs.SlowDesk.{max_cells}
 use Rattle.stm_terms.specs.Limits.{max_waiting}
 use Rattle.stm_machine.specs.Checkpoints.{CheckpointView}
-use Rattle.stm_history.specs.declared.files.check.Stage.{Stage}
-use Rattle.stm_history.specs.declared.files.check.Stage.TheVariants.{Before, Declaring, AtCells, AtBlocks, Running}
-use Rattle.stm_history.specs.declared.files.fault.HistoryFault.{HistoryFault}
-use Rattle.stm_history.specs.declared.files.fault.HistoryFault.TheVariants.{BadHeader, NoMemory}
+use Rattle.stm_history.specs.declared.check.Stage.{Stage}
+use Rattle.stm_history.specs.declared.check.Stage.TheVariants.{Before, Declaring, AtCells, AtBlocks, Running}
+use Rattle.stm_history.specs.declared.fault.HistoryFault.{HistoryFault}
+use Rattle.stm_history.specs.declared.fault.HistoryFault.TheVariants.{BadHeader, NoMemory}
 use Rattle.stm_history.specs.Checking.{CheckerState, at_header, at_variables, at_cells, at_blocks, at_events, HasTaken, IsCheckpointHead, LeadsTo}
 use Rattle.stm_history.specs.Following.{Follows}
 use Rattle.stm_history_text.specs.Starts.{IsLatest}

@@ -1,7 +1,7 @@
 -- What is reported of the line after whole lines.
 use Rattle.std.specs.Prelude.{◌≡◌, ℕ, List}
-use Rattle.stm_history.specs.declared.files.check.Stage.{Stage}
-use Rattle.stm_history.specs.declared.files.explanation.Explanation.{Explanation}
+use Rattle.stm_history.specs.declared.check.Stage.{Stage}
+use Rattle.stm_history.specs.declared.explanation.Explanation.{Explanation}
 use Rattle.stm_history.specs.Checking.{CheckerState, LinesUpTo}
 use Rattle.stm_history.specs.Explanation.{Explains, line_after}
 use Rattle.stm_history.specs.Stages.{IsStage}

@@ -15,7 +15,7 @@ use Rattle.stm_event_lines.specs.Lines.{declaring_format, latest_format}
 use Rattle.stm_history.specs.Judgement.{AreEvents}
 use Rattle.stm_history.specs.Loading.{HasText, loaded_start}
 use Rattle.stm_history_text.specs.Starts.{IsLatest, are_plain_blocks, declares, format_for, format_of_start, is_declaration, is_labelling, labels_blocks}
-use Rattle.stm_history.specs.declared.files.loading.Loaded.{Loaded}
+use Rattle.stm_history.specs.declared.loading.Loaded.{Loaded}
 use Rattle.stm_journal.specs.Disk.{Disk}
 use Rattle.stm_journal.specs.Journal.{AtRest}
 use Rattle.stm_history_file.specs.Durable.{LoadedKept, LoadsFront, file_text, IsFormatFor, IsFormatOf}

@@ -12,7 +12,7 @@ use Rattle.stm_history_text.specs.HistoryText.{event_lines, history_text, start_
 use Rattle.stm_history.specs.Judgement.{AreEvents, AreShortLines, FormatFits, StartFits}
 use Rattle.stm_history.specs.Loading.{IsWholeHistory, ReportsLoadFault, loaded_start}
 use Rattle.stm_history_text.specs.Starts.{Start, first_state, format_for, read_back, state_after_start}
-use Rattle.stm_history.specs.declared.files.loading.Loaded.{Loaded}
+use Rattle.stm_history.specs.declared.loading.Loaded.{Loaded}
 use Rattle.stm_journal.specs.declared.sync_mode.SyncMode.{SyncMode}
 use Rattle.stm_journal.specs.declared.sync_mode.SyncMode.TheVariants.{Full, Append, Never}
 use Rattle.stm_journal.specs.declared.error.JournalError.{JournalError}

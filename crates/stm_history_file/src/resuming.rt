@@ -7,7 +7,7 @@ ghost use Rattle.stm_events.specs.SlowDesk.{state_from};
 ghost use Rattle.stm_events.specs.States.{IsLegalFrom};
 ghost use Rattle.stm_history.specs.Loading.{HasText, ReportsLoadFault, loaded_start};
 ghost use Rattle.stm_history_text.specs.Starts.{BlocksAreOfText};
-ghost use Rattle.stm_history.specs.declared.files.loading.Loaded.{Loaded as AnyLoaded};
+ghost use Rattle.stm_history.specs.declared.loading.Loaded.{Loaded as AnyLoaded};
 ghost use Rattle.stm_journal.specs.Disk.{IsSettled, Reaches, FailsOnlyByReads};
 ghost use Rattle.stm_journal.specs.Journal.{HasFound, LeavesSameLines, ShowsSameLines, most_batch};
 ghost use Rattle.stm_journal.specs.Text.{recovered, dropped_count};

@@ -7,7 +7,7 @@ use Rattle.stm_history.specs.Loading.{HasText, loaded_start}
 use Rattle.stm_history.specs.Judgement.{AreEvents, FitsBefore, IsBefore}
 use Rattle.stm_history_text.specs.Starts.{first_state, format_of_start}
 use Rattle.stm_machine.specs.Checkpoints.{CheckpointView, start_of, started_by}
-use Rattle.stm_history.specs.declared.files.loading.Loaded.{Loaded}
+use Rattle.stm_history.specs.declared.loading.Loaded.{Loaded}
 use Rattle.stm_journal.specs.declared.sync_mode.SyncMode.{SyncMode}
 use Rattle.stm_journal.specs.Disk.{Disk, LeavesOnly}
 use Rattle.stm_journal.proofs.Moments.{weaker}

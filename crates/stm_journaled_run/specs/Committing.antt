@@ -4,7 +4,7 @@ use Rattle.std.specs.Io.KnownBytes.{Appends, Consumes}
 use Rattle.stm_terms.specs.Texts.{IsPrefixOf}
 use Rattle.stm_events.specs.declared.event.Event.{Event}
 use Rattle.stm_history_text.specs.Starts.{Start}
-use Rattle.stm_history.specs.declared.files.loading.Loaded.{Loaded}
+use Rattle.stm_history.specs.declared.loading.Loaded.{Loaded}
 use Rattle.stm_options.specs.declared.options.Options.{Options}
 use Rattle.stm_journal.specs.declared.sync_mode.SyncMode.{SyncMode}
 use Rattle.stm_journal.specs.Disk.{Disk, LeavesOnly}

@@ -4,7 +4,7 @@ use Rattle.stm_terms.specs.Texts.{IsPrefixOf}
 use Rattle.stm_events.specs.declared.event.Event.{Event}
 use Rattle.stm_events.specs.SlowDesk.{state_from}
 use Rattle.stm_machine.specs.Checkpoints.{start_of}
-use Rattle.stm_history.specs.declared.files.loading.Loaded.{Loaded}
+use Rattle.stm_history.specs.declared.loading.Loaded.{Loaded}
 use Rattle.stm_history_text.specs.HistoryText.{start_text}
 use Rattle.stm_history_text.specs.Starts.{Start}
 use Rattle.stm_journal.specs.declared.error.JournalError.{JournalError}

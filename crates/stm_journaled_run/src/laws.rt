@@ -6,7 +6,7 @@ ghost use Rattle.stm_journaled_run.specs.NewEvents.{CheckpointsFit, LastEventsFi
 pub(crate) fn last_events_fit()
     ensures { LastEventsFit }
 {
-    stm_history::files::laws::checked_are_well_typed();
+    stm_history::laws::checked_are_well_typed();
 }
 
 /// So can a checkpoint.

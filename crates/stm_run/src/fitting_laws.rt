@@ -43,7 +43,7 @@ pub fn numbers_are_small()
     stm_parse::laws::answers_are_right();
     stm_check::laws::check_never_says_no_memory();
     stm_eval::laws::verdict_is_stable();
-    stm_history::files::laws::checked_are_well_typed();
+    stm_history::laws::checked_are_well_typed();
 }
 
 /// Each event of the desk can be in a line of a history, whatever lines came before, if the values of its verdict are in the

@@ -14,7 +14,7 @@ pub fn each_line_is_answered()
     stm_check::laws::check_never_says_no_memory();
     stm_check::laws::verdict_fits();
     stm_eval::laws::verdict_is_stable();
-    stm_history::files::laws::checked_are_well_typed();
+    stm_history::laws::checked_are_well_typed();
 }
 
 /// Each waiting block that isn't new stands with a verdict, whatever lines came before: so none that `show` has to tell is
@@ -25,7 +25,7 @@ pub fn verdicts_are_shown()
     stm_parse::laws::answers_are_right();
     stm_check::laws::check_never_says_no_memory();
     stm_eval::laws::verdict_is_stable();
-    stm_history::files::laws::checked_are_well_typed();
+    stm_history::laws::checked_are_well_typed();
 }
 
 /// The queue of the desk is no more than a set of tickets that are out: whatever lines came before, it has the tickets of the new
@@ -39,7 +39,7 @@ pub fn queue_is_a_set_of_tickets()
     stm_parse::laws::answers_are_right();
     stm_check::laws::check_never_says_no_memory();
     stm_eval::laws::verdict_is_stable();
-    stm_history::files::laws::checked_are_well_typed();
+    stm_history::laws::checked_are_well_typed();
 }
 
 /// No answer differs by a checkpoint, whatever lines came before it and after it: but for the commands that speak of the history, and
@@ -50,5 +50,5 @@ pub fn no_answer_differs()
     stm_parse::laws::answers_are_right();
     stm_check::laws::check_never_says_no_memory();
     stm_eval::laws::verdict_is_stable();
-    stm_history::files::laws::checked_are_well_typed();
+    stm_history::laws::checked_are_well_typed();
 }

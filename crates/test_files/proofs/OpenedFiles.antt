@@ -8,7 +8,7 @@ use Rattle.stm_history.specs.Judgement.{AreEvents, FitsBefore, FormatFits, IsBef
 use Rattle.stm_history.specs.Loading.{HasText, loaded_start}
 use Rattle.stm_history_text.specs.Starts.{Start, first_state}
 use Rattle.stm_history_file.specs.Durable.{AreFit, FitLines, LoadedKept, HistoryKept}
-use Rattle.stm_history.specs.declared.files.loading.Loaded.{Loaded}
+use Rattle.stm_history.specs.declared.loading.Loaded.{Loaded}
 use Rattle.stm_journal.specs.Disk.{Disk}
 use Rattle.stm_history_file.specs.declared.recording.HistoryFile.{HistoryFile}
 

@@ -1,5 +1,0 @@
-use Rattle.stm_history.proofs.OneReading.{numbers_are_fixed}
-use Rattle.stm_history.proofs.files.laws.numbers_are_fixed.Goals as goal
-
-pub returns : goal.returns
-returns c = numbers_are_fixed

@@ -1,5 +1,0 @@
-use Rattle.stm_history.proofs.OneReading.{texts_are_of_one_history}
-use Rattle.stm_history.proofs.files.laws.texts_are_of_one_history.Goals as goal
-
-pub returns : goal.returns
-returns c = texts_are_of_one_history

@@ -1,5 +1,0 @@
-use Rattle.stm_history.proofs.KeptIsTaken.{written_fits}
-use Rattle.stm_history.proofs.files.laws.written_formats_fit.Goals as goal
-
-pub returns : goal.returns
-returns c = written_fits
