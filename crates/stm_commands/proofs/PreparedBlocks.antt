@@ -13,32 +13,31 @@ use Rattle.stm_terms.specs.declared.kinds.Ty.{Ty}
 use Rattle.stm_terms.specs.declared.values.Value.{Value}
 use Rattle.stm_store.specs.Cells.{Covers, plains}
 use Rattle.stm_store.specs.Naming.{Named, named_uses, known_kinds}
-use Rattle.stm_event_lines.specs.WholeBlocks.{BlockFault, NotParsed, NotTyped, given_type, block_if_typed, block_if_parsed, checked_block}
+use Rattle.stm_source.specs.CompiledBlock.{given_type, block_if_typed, block_if_parsed, compiled_block}
 use Rattle.stm_event_lines.proofs.CheckedBlocks.{checked_blocks_stay}
 use Rattle.stm_events.specs.States.{IsLegalFrom}
 use Rattle.stm_machine.specs.Checkpoints.{MayStart}
 use Rattle.stm_desk.specs.DeskView.{DeskView, start_state, state_of}
 use Rattle.stm_source.specs.declared.refusal.Refusal.{Refusal}
-use Rattle.stm_source.specs.CompiledBlock.{block_or_refusal, compiled_block}
 use Rattle.stm_source.specs.OutOfMemory.{IsOutOfMemory}
 use Rattle.stm_commands.specs.BlockCache.{IsBlockOf, IsPrepared, ArePrepared}
 use Rattle.stm_commands.specs.OpenInvariant.{NamesFollow}
 use Rattle.stm_commands.proofs.LegalDesks.{desk_possible}
 
 -- a block has its text
-typed_text : (known : List Named) (text : List ℕ) (b : Block) (o : Result (Act × ActionType) TypeFault) → block_or_refusal (block_if_typed known text o) ≡ Ok b → b.text ≡ text
+typed_text : (known : List Named) (text : List ℕ) (b : Block) (o : Result (Act × ActionType) TypeFault) → block_if_typed known text o ≡ Ok b → b.text ≡ text
 typed_text known text b (Err f) e = absurd cc
 typed_text known text b (Ok c) e =
     let whole : Block = record { tree = c.0; text = text; result_type = given_type c.1; uses = uses_of (known_kinds known) c.0 } in
     let same : whole ≡ b = cc in
     sym (ap (λ (x : Block). x.text) same)
 
-parsed_text : (known : List Named) (text : List ℕ) (b : Block) (o : Result raw.RawAct ParseFault) → block_or_refusal (block_if_parsed known text o) ≡ Ok b → b.text ≡ text
+parsed_text : (known : List Named) (text : List ℕ) (b : Block) (o : Result raw.RawAct ParseFault) → block_if_parsed known text o ≡ Ok b → b.text ≡ text
 parsed_text known text b (Err f) e = absurd cc
 parsed_text known text b (Ok t) e = typed_text known text b (checked known text [] t) e
 
 pub compiled_text : (known : List Named) (text : List ℕ) (b : Block) → compiled_block known text ≡ Ok b → b.text ≡ text
-unfolding compiled_block checked_block
+unfolding compiled_block
 compiled_text known text b e = parsed_text known text b (parsed_block text) e
 
 pub prepared_push : (known : List Named) (os : List (Option Block)) → ArePrepared known os → ArePrepared known (os ++ None ∷ [])
@@ -78,15 +77,9 @@ first_covered : (cells : List (Ty × Value)) (few more : List Named) → Covers 
 first_covered cells [] more c = tt
 first_covered cells (n ∷ few) more c = (c.0, first_covered cells few more c.1)
 
-checked_of : (o : Result Block BlockFault) (b : Block) → block_or_refusal o ≡ Ok b → o ≡ Ok b
-checked_of (Ok c) b e = let q : c ≡ b = cc in ap Ok q
-checked_of (Err (NotParsed f)) b e = absurd cc
-checked_of (Err (NotTyped f)) b e = absurd cc
-
 block_stays : (few more : List Named) (text : List ℕ) (b : Block) → IsBlockOf few text b → IsBlockOf (few ++ more) text b
-unfolding compiled_block
 block_stays few more text b h = (
-  ap block_or_refusal (checked_blocks_stay few more text b (checked_of (checked_block few text) b h.0)),
+  checked_blocks_stay few more text b h.0,
   λ cells c. h.1 cells (first_covered cells few more c),
 )
 

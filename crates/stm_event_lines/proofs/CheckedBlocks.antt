@@ -13,7 +13,8 @@ use Rattle.stm_check.specs.declared.fault.TypeFault.{TypeFault}
 use Rattle.stm_check.proofs.LaterNames.{checked_stay}
 use Rattle.stm_check.proofs.TypedBlockInvariant.{kept_type}
 use Rattle.stm_events.specs.Laws.{IsWellTyped}
-use Rattle.stm_event_lines.specs.WholeBlocks.{given_type, block_if_typed, block_if_parsed, checked_block, CheckedAreWellTyped, CheckedBlocksStay}
+use Rattle.stm_event_lines.specs.CheckedBlocks.{CheckedAreWellTyped, CheckedBlocksStay}
+use Rattle.stm_source.specs.CompiledBlock.{given_type, block_if_typed, block_if_parsed, compiled_block}
 
 block_by : (known : List Named) (text : List ℕ) (tree : raw.RawAct) (block : Block) (o : Result (Act × ActionType) TypeFault) → checked known text [] tree ≡ o → block_if_typed known text o ≡ Ok block → IsWellTyped block
 block_by known text tree block (Err f) c e = cc
@@ -27,7 +28,7 @@ parsed_by known text block (Err f) e = cc
 parsed_by known text block (Ok tree) e = block_by known text tree block (checked known text [] tree) refl e
 
 pub checked_are_well_typed : CheckedAreWellTyped
-unfolding checked_block
+unfolding compiled_block
 checked_are_well_typed known text block e = parsed_by known text block (parsed_block text) e
 
 -- ---- more names
@@ -44,5 +45,5 @@ parsed_stays few more text block (Err f) e = cc
 parsed_stays few more text block (Ok tree) e = typed_stays few more text tree block (checked few text [] tree) refl e
 
 pub checked_blocks_stay : CheckedBlocksStay
-unfolding checked_block
+unfolding compiled_block
 checked_blocks_stay few more text block e = parsed_stays few more text block (parsed_block text) e

@@ -21,10 +21,10 @@ use Rattle.stm_event_lines.specs.declared.checkpoint.CheckpointHeader.{Checkpoin
 use Rattle.stm_event_lines.specs.declared.checkpoint.WaitingBlock.{WaitingBlock}
 use Rattle.stm_event_lines.specs.CheckpointFields.{is_checkpoint_format, checkpoint_header_of, checkpoint_header_in, cell_of, waiting_of}
 use Rattle.stm_event_lines.specs.CheckpointLines.{IsCheckpointFormat, checkpoint_header_data, checkpoint_header_line, name_data, cell_data, cell_line, cause_before, label_before, delivery_members, members_after_text, waiting_data, waiting_line, FitsName, FitsCell, FitsCause, FitsDelivery, FitsWaiting}
-use Rattle.stm_event_lines.specs.Fields.{write_of, all_of, block_of_text}
+use Rattle.stm_event_lines.specs.Fields.{write_of, all_of}
+use Rattle.stm_source.specs.CompiledBlock.{block_of_text, compiled_block}
 use Rattle.stm_event_lines.specs.Fits.{Is32Bit, FitsValue, FitWrites, IsOneLine, BeginsWithBrace}
 use Rattle.stm_event_lines.specs.Lines.{IsFormat, number_data, write_data, header_data, header_line}
-use Rattle.stm_event_lines.specs.WholeBlocks.{checked_block}
 use Rattle.stm_event_lines.proofs.Exact.{value_exact, writes_exact, verdict_exact}
 use Rattle.stm_event_lines.proofs.OneLines.{IsInRange, MembersInRange}
 use Rattle.stm_event_lines.proofs.Ranges.{own_text, ascii_type, ascii_name, ascii_label, ascii_block, value_in_range, writes_in_range, verdict_in_range}
@@ -272,7 +272,7 @@ waiting_unread known line ticket b c label d f l none = unread line (waiting_dat
 -- ---- a block that was read
 
 -- it is what its text checks to
-pub own_block : (known : List Named) (o : Option (List ℕ)) (b : Block) → option_and_then (block_of_text known) o ≡ Some b → checked_block known b.text ≡ Ok b
+pub own_block : (known : List Named) (o : Option (List ℕ)) (b : Block) → option_and_then (block_of_text known) o ≡ Some b → compiled_block known b.text ≡ Ok b
 own_block known (Some text) b e = own_text known text b e
 own_block known None b e = absurd cc
 

@@ -36,8 +36,8 @@ use Rattle.stm_terms.specs.Ast.{Act}
 use Rattle.stm_terms.specs.Typing.{ActionType}
 use Rattle.stm_check.specs.CheckFunction.{checked}
 use Rattle.stm_check.specs.declared.fault.TypeFault.{TypeFault}
-use Rattle.stm_event_lines.specs.WholeBlocks.{BlockFault, checked_block, block_if_parsed, block_if_typed}
-use Rattle.stm_event_lines.specs.Fields.{unless_faulty, block_of_text}
+use Rattle.stm_source.specs.declared.refusal.Refusal.{Refusal}
+use Rattle.stm_source.specs.CompiledBlock.{compiled_block, block_if_parsed, block_if_typed, block_if_any, block_of_text}
 use Rattle.stm_event_lines.specs.Fits.{WhatFitsNames, FitsValue, FitsInt, FitsVerdict, FitWrites, FitNews, FitNumbers, FitsVariable}
 use Rattle.stm_event_lines.specs.Lines.{number_data, value_data, write_data, new_data, verdict_data, what_data, variable_data}
 use Rattle.stm_event_lines.proofs.OneLines.{IsInRange, ItemsInRange, is_ascii_text}
@@ -130,8 +130,8 @@ known_ascii : (known : List Named) (text : List ℕ) (r : Result raw.RawAct Pars
 known_ascii known text (Ok t) b e f = parsed_ascii text t e
 known_ascii known text (Err x) b e f = absurd cc
 
-pub ascii_block : (known : List Named) (text : List ℕ) (b : Block) → checked_block known text ≡ Ok b → is_ascii_text text ≡ true
-unfolding checked_block
+pub ascii_block : (known : List Named) (text : List ℕ) (b : Block) → compiled_block known text ≡ Ok b → is_ascii_text text ≡ true
+unfolding compiled_block
 ascii_block known text b e = ascii_tested text (known_ascii known text (parsed_block text) b refl e)
 
 -- ---- lines
@@ -188,15 +188,15 @@ parsed_text : (known : List Named) (text : List ℕ) (r : Result raw.RawAct Pars
 parsed_text known text (Ok t) b e = checked_text known text (checked known text [] t) b e
 parsed_text known text (Err x) b e = absurd cc
 
-text_of : (known : List Named) (text : List ℕ) (b : Block) → checked_block known text ≡ Ok b → b.text ≡ text
-unfolding checked_block
+text_of : (known : List Named) (text : List ℕ) (b : Block) → compiled_block known text ≡ Ok b → b.text ≡ text
+unfolding compiled_block
 text_of known text b e = parsed_text known text (parsed_block text) b e
 
-not_faulty : (r : Result Block BlockFault) (b : Block) → unless_faulty r ≡ Some b → r ≡ Ok b
+not_faulty : (r : Result Block Refusal) (b : Block) → block_if_any r ≡ Some b → r ≡ Ok b
 not_faulty (Ok c) b e = cc
 not_faulty (Err x) b e = absurd cc
 
-pub own_text : (known : List Named) (text : List ℕ) (b : Block) → block_of_text known text ≡ Some b → checked_block known b.text ≡ Ok b
+pub own_text : (known : List Named) (text : List ℕ) (b : Block) → block_of_text known text ≡ Some b → compiled_block known b.text ≡ Ok b
 own_text known text b e =
-    let f : checked_block known text ≡ Ok b = not_faulty (checked_block known text) b e in
-    subst (λ (t : List ℕ). checked_block known t ≡ Ok b) (sym (text_of known text b f)) f
+    let f : compiled_block known text ≡ Ok b = not_faulty (compiled_block known text) b e in
+    subst (λ (t : List ℕ). compiled_block known t ≡ Ok b) (sym (text_of known text b f)) f

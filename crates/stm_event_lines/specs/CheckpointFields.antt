@@ -15,7 +15,8 @@ use Rattle.stm_event_lines.specs.declared.checkpoint.NamedCell.{NamedCell}
 use Rattle.stm_event_lines.specs.declared.checkpoint.WaitingBlock.{WaitingBlock}
 use Rattle.stm_event_lines.specs.CheckpointLines.{checkpoint_format}
 use Rattle.stm_event_lines.specs.Lines.{declaring_format}
-use Rattle.stm_event_lines.specs.Fields.{value_of, write_of, type_in, verdict_field, text_field, number_field, list_field, block_of_text}
+use Rattle.stm_event_lines.specs.Fields.{value_of, write_of, type_in, verdict_field, text_field, number_field, list_field}
+use Rattle.stm_source.specs.CompiledBlock.{block_of_text}
 
 -- ---- the first line
 -- a first line, whether or not its format is one of checkpoints

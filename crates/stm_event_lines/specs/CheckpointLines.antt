@@ -18,7 +18,7 @@ use Rattle.stm_event_lines.specs.declared.checkpoint.DeliveredParts.{DeliveredPa
 use Rattle.stm_event_lines.specs.declared.checkpoint.WaitingLine.{WaitingLine}
 use Rattle.stm_event_lines.specs.Fits.{Is32Bit, FitsValue, FitsVerdict, FitWrites}
 use Rattle.stm_event_lines.specs.Lines.{declaring_format, number_data, value_data, write_data, verdict_data}
-use Rattle.stm_event_lines.specs.WholeBlocks.{checked_block}
+use Rattle.stm_source.specs.CompiledBlock.{compiled_block}
 
 -- the format of histories that begin from a checkpoint, if no variable is declared late, none was before the checkpoint, no block is
 -- labelled, and of no block in the checkpoint it is known why it is stale
@@ -124,7 +124,7 @@ FitsDelivery (Some d) = FitWrites d.reads × FitsVerdict d.verdict
 abbrev pub FitsWaiting : List Named → ℕ → Block → Option KeptCause → List ℕ → Option Delivered → Type 0
 FitsWaiting known ticket block cause label delivery =
     Is32Bit ticket
-    × (checked_block known block.text ≡ Ok block)
+    × (compiled_block known block.text ≡ Ok block)
     × FitsCause cause
     × FitsDelivery delivery
     × IsTrue (is_label label)

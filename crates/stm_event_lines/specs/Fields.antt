@@ -1,5 +1,5 @@
 -- What a JSON value stands for, as the reader finds it. A line is accepted where what was found has this very line again.
-use Rattle.std.specs.Prelude.{ℕ, ◌^◌, List, [], ◌∷◌, codes, nat_lt, if◌then◌else◌, Option, Some, None, Result, Ok, Err, option_map, option_and_then, is_some}
+use Rattle.std.specs.Prelude.{ℕ, ◌^◌, List, [], ◌∷◌, codes, nat_lt, if◌then◌else◌, Option, Some, None, option_map, option_and_then, is_some}
 use Rattle.std.specs.Result.{result_ok}
 use Rattle.std.specs.Str.{bytes_eq}
 use Rattle.serde_json.specs.Data.{Data, Items, no_items, item}
@@ -16,14 +16,13 @@ use Rattle.stm_parse.specs.TypeFunction.{parsed_type}
 use Rattle.stm_terms.specs.Names.{is_name_text}
 use Rattle.stm_store.specs.Tables.{Declared}
 use Rattle.stm_store.specs.Naming.{Named}
+use Rattle.stm_source.specs.CompiledBlock.{block_of_text}
 use Rattle.stm_events.specs.declared.event.Event.{Event}
 use Rattle.stm_events.specs.declared.event.What.{What}
 use Rattle.stm_events.specs.declared.event.What.TheVariants.{Submitted, Installed, Finished, Cancelled, Declared as DeclaredLate, Labelled}
 use Rattle.stm_event_lines.specs.declared.read.Header.{Header}
 use Rattle.stm_events.specs.Labels.{is_label}
 use Rattle.stm_terms.specs.Limits.{max_clients}
-use Rattle.stm_check.specs.TypedBlock.{Block}
-use Rattle.stm_event_lines.specs.WholeBlocks.{BlockFault, checked_block}
 
 -- the number, if it has at most 32 bits
 abbrev pub in_32_bits : ℕ → Option ℕ
@@ -105,15 +104,6 @@ verdict_of d =
 -- the verdict of an event
 abbrev pub verdict_field : Data → Option Verdict
 verdict_field d = option_and_then verdict_of (get (codes "verdict") d)
-
--- the block, unless its text has a fault
-abbrev pub unless_faulty : Result Block BlockFault → Option Block
-unless_faulty (Ok b) = Some b
-unless_faulty (Err e) = None
-
--- the block that a text is over these names; none if it has a fault
-abbrev pub block_of_text : List Named → List ℕ → Option Block
-block_of_text known text = unless_faulty (checked_block known text)
 
 -- the submission of the block of this text
 abbrev pub submitted_of : List Named → Data → ℕ → Option What

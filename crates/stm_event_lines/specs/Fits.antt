@@ -18,7 +18,7 @@ use Rattle.stm_events.specs.declared.event.What.{What}
 use Rattle.stm_events.specs.declared.event.What.TheVariants.{Submitted, Installed, Finished, Cancelled, Declared as DeclaredLate, Labelled}
 use Rattle.stm_events.specs.Labels.{is_label}
 use Rattle.stm_event_lines.specs.Lines.{declaring_format}
-use Rattle.stm_event_lines.specs.WholeBlocks.{checked_block}
+use Rattle.stm_source.specs.CompiledBlock.{compiled_block}
 
 -- the number has at most 32 bits
 abbrev pub Is32Bit : ℕ → Type 0
@@ -61,7 +61,7 @@ FitsVerdict Blocks = ⊤
 
 -- what happens has its numbers in range, a block that is submitted is what its text checks to over the names, and a label is one
 abbrev pub WhatFitsNames : List Named → What → Type 0
-WhatFitsNames known (Submitted ticket block) = Is32Bit ticket × (checked_block known block.text ≡ Ok block)
+WhatFitsNames known (Submitted ticket block) = Is32Bit ticket × (compiled_block known block.text ≡ Ok block)
 WhatFitsNames known (Installed ticket v) = Is32Bit ticket × FitsVerdict v
 WhatFitsNames known (Finished ticket v first_new stale) = Is32Bit ticket × FitsVerdict v × Is32Bit first_new × FitNumbers stale
 WhatFitsNames known (Cancelled ticket) = Is32Bit ticket

@@ -1,8 +1,8 @@
--- What a reader has to believe: the lines of a history, what can stand in them, and which block a text has.
+-- What a reader has to believe: the lines of a history, what can stand in them, and what holds of the blocks in them.
+pub mod CheckedBlocks
 pub mod CheckpointLines
 pub mod Fits
 pub mod Lines
-pub mod WholeBlocks
 -- The words inside.
 pub mod CheckpointFields
 pub mod Fields

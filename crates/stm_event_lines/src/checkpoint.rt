@@ -14,13 +14,13 @@ ghost use Rattle.stm_events.specs.declared.kept_cause.KeptCause.{KeptCause as An
 ghost use Rattle.stm_events.specs.Labels.{is_label};
 ghost use Rattle.stm_event_lines.specs.CheckpointFields.{checkpoint_header_of as header_meant, count_field, name_of, counted_cell_of, cell_of as cell_meant, cell_parts, bool_field, delivery_in, delivery_of as delivery_meant, label_in as label_in_meant, label_field, cause_in, cause_field, waiting_of as waiting_meant};
 ghost use Rattle.stm_event_lines.specs.CheckpointLines.{IsCheckpointFormat, checkpoint_header_data, checkpoint_header_line, name_data, cell_data, cell_line, label_before, cause_before, delivery_members, members_after_text, parts_delivered, given_data, waiting_line, FitsName, FitsCell, FitsCause, FitsDelivery, FitsWaiting};
-ghost use Rattle.stm_event_lines.specs.Fields.{block_of_text, text_field, verdict_field};
+ghost use Rattle.stm_event_lines.specs.Fields.{text_field, verdict_field};
+ghost use Rattle.stm_source.specs.CompiledBlock.{block_of_text};
 ghost use Rattle.stm_event_lines.specs.Fits.{Is32Bit, FitsValue, FitsVerdict};
 ghost use Rattle.stm_event_lines.specs.Lines.{write_data};
 ghost use Rattle.stm_event_lines.specs.Sending.{SendsMember};
 
 use crate::build::{type_text, value_json};
-use crate::drafted::block_of;
 use crate::fields::{number_at, text_at, value_at};
 use crate::formats::is_checkpoint_format;
 use crate::parts::writes_at;
@@ -37,6 +37,7 @@ use stm_events::kept_cause::KeptCause;
 use stm_events::label::is_label;
 use stm_events::shared_name::SharedName;
 use stm_events::shared_verdict::SharedVerdict;
+use stm_source::block_of;
 use stm_store::{Cell, Names};
 use stm_terms::lists::Writes;
 use stm_terms::values::Value;

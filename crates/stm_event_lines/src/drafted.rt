@@ -2,7 +2,6 @@
 
 ghost use Rattle.std.specs.Prelude.{◌≡◌, ◌<◌, List, IfOk, IfSome};
 ghost use Rattle.stm_store.specs.Naming.{Named};
-ghost use Rattle.stm_event_lines.specs.Fields.{block_of_text};
 ghost use Rattle.stm_event_lines.specs.Fits.{FitsNames, FitsVerdict, FitsValue, FitWrites, FitNumbers, Is32Bit};
 ghost use Rattle.stm_event_lines.specs.Lines.{event_line};
 ghost use Rattle.stm_terms.specs.Limits.{max_clients};
@@ -11,33 +10,15 @@ use crate::draft::{Draft, DraftVerdict};
 use crate::write::event_text;
 use serde_json::from_slice;
 use std::alloc::Global;
-use stm_check::{SharedBlock, TypeFault, check};
 use stm_events::event::{Event, What};
 use stm_events::shared_verdict::SharedVerdict;
 use stm_events::tickets::Tickets;
-use stm_parse::{ParseFault, parse_block};
+use stm_source::block_of;
 use stm_store::Names;
 use stm_terms::NoMemory;
 use stm_terms::lists::{News, Writes};
 use stm_terms::values::Value;
 use stm_terms::verdicts::Verdict;
-
-/// The block that a text is over the names; none if it has a fault.
-#[tactic(auto, unfolding(crate::specs::WholeBlocks::checked_block))]
-pub fn block_of(alloc: Global, known: &Names, text: &str) -> Result<Option<SharedBlock>, NoMemory>
-    ensures { IfOk result (λ o. o ≡ block_of_text known.now text.now) }
-{
-    let raw = match parse_block(alloc, text) {
-        Ok(raw) => raw,
-        Err(ParseFault::NoMemory) => return Err(NoMemory),
-        Err(_) => return Ok(None),
-    };
-    match check(alloc, known, raw) {
-        Ok(block) => Ok(Some(SharedBlock::new(alloc, block)?)),
-        Err(TypeFault::NoMemory) => Err(NoMemory),
-        Err(_) => Ok(None),
-    }
-}
 
 /// Any value is in range, by its type.
 pub fn value_in_range(value: Value)

@@ -1,8 +1,8 @@
 //! The lines of a history: its header, its declared variables and its events as JSON, written exactly and read back exactly.
 //!
 //! A line of an event is read in one pass as a draft, which is then compared with the text that would be written. What a reader has to
-//! believe: `specs/Lines` has the line of each event, `specs/WholeBlocks` which block or fault a text has, and `specs/Fits` what can
-//! stand in a line.
+//! believe: `specs/Lines` has the line of each event, `specs/CheckpointLines` those of a checkpoint, and `specs/Fits` what can stand in a
+//! line. The block of a text is that of `stm_source`.
 #![tactic(auto)]
 
 mod build;

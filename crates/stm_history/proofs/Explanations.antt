@@ -29,7 +29,7 @@ use Rattle.stm_event_lines.specs.Fits.{FitsNames, FitsFormat, FitsVariable, What
 use Rattle.stm_history.specs.Judgement.{IsShort}
 use Rattle.stm_event_lines.specs.CheckpointLines.{FitsWaiting, cell_line, checkpoint_format, waiting_line}
 use Rattle.stm_event_lines.specs.Lines.{event_line, variable_line}
-use Rattle.stm_event_lines.specs.WholeBlocks.{checked_block}
+use Rattle.stm_source.specs.CompiledBlock.{compiled_block}
 
 -- ---- one line
 pub head_line : (p : CheckerState) (bytes : List ℕ) (x : Explanation) → ((q : CheckerState) × LeadsTo p bytes q) → IsShortOr bytes x → ExplainsHead p x
@@ -78,7 +78,7 @@ explained_at (Err e) P q line h f = tt
 
 -- ---- an event
 pub checked_same : (names : List Named) (a b : What) → WhatFitsNames names a → IsSameCall a b → HasCheckedBlock names b
-checked_same names (Submitted t b) (Submitted u c) f e = subst (λ (x : Block). checked_block names x.text ≡ Ok x) e f.1
+checked_same names (Submitted t b) (Submitted u c) f e = subst (λ (x : Block). compiled_block names x.text ≡ Ok x) e f.1
 checked_same names (Submitted t b) (Installed u w) f e = tt
 checked_same names (Submitted t b) (Finished u w m k) f e = tt
 checked_same names (Submitted t b) (Cancelled u) f e = tt

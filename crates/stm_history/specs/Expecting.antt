@@ -15,7 +15,7 @@ use Rattle.stm_history.specs.Explanation.{CanStand, IsCallDue, IsSameCall, is_hi
 use Rattle.stm_history.specs.Judgement.{IsShort}
 use Rattle.stm_history_text.specs.Starts.{Start, state_after_start}
 use Rattle.stm_event_lines.specs.Lines.{event_line}
-use Rattle.stm_event_lines.specs.WholeBlocks.{checked_block}
+use Rattle.stm_source.specs.CompiledBlock.{compiled_block}
 
 -- on a state and with a history that is full or not: the same call as it has to be, which is allowed, or why a desk refuses it
 abbrev pub IsDueOn : Slow → Bool → What → Expectation → Type 0
@@ -29,7 +29,7 @@ IsDueAfter start history e (Refuses r) = call_refusal (state_after_start start h
 
 -- a block that is submitted is what its text checks to over the names
 abbrev pub HasCheckedBlock : List Named → What → Type 0
-HasCheckedBlock names (Submitted t b) = checked_block names b.text ≡ Ok b
+HasCheckedBlock names (Submitted t b) = compiled_block names b.text ≡ Ok b
 HasCheckedBlock names (Installed t v) = Unit {0}
 HasCheckedBlock names (Finished t v n stale) = Unit {0}
 HasCheckedBlock names (Cancelled t) = Unit {0}

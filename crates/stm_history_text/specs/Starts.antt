@@ -14,7 +14,7 @@ use Rattle.stm_machine.specs.declared.checkpoint.CheckpointBlock.{CheckpointBloc
 use Rattle.stm_machine.specs.Checkpoints.{CheckpointView, started_by}
 use Rattle.stm_event_lines.specs.CheckpointLines.{checkpoint_format}
 use Rattle.stm_event_lines.specs.Lines.{declaring_format, latest_format, rule_of}
-use Rattle.stm_event_lines.specs.WholeBlocks.{checked_block}
+use Rattle.stm_source.specs.CompiledBlock.{compiled_block}
 
 -- the format of the text, the table of the variables that are declared first, and the checkpoint that the history begins from, if it does
 pub record Start : Type 0 where
@@ -99,7 +99,7 @@ delivery_of_block b = option_map (λ h. record { reads = h.reads; verdict = h.ve
 -- each of these waiting blocks is what its text checks to over the names
 abbrev pub AreOfText : List Named → List CheckpointBlock → Type 0
 AreOfText names [] = ⊤
-AreOfText names (b ∷ bs) = (checked_block names b.waiting.block.text ≡ Ok b.waiting.block) × AreOfText names bs
+AreOfText names (b ∷ bs) = (compiled_block names b.waiting.block.text ≡ Ok b.waiting.block) × AreOfText names bs
 
 -- the same of those of a checkpoint, over its names
 abbrev pub BlocksAreOfText : CheckpointView → Type 0

@@ -8,7 +8,7 @@ use Rattle.stm_events.specs.SlowDesk.{Slow, after, state_from}
 use Rattle.stm_events.specs.States.{IsLegalFrom}
 use Rattle.stm_machine.specs.Checkpoints.{CheckpointView, MayStart}
 use Rattle.stm_history_file.specs.Durable.{FitLines, IsFormatFor}
-use Rattle.stm_event_lines.specs.WholeBlocks.{checked_block}
+use Rattle.stm_source.specs.CompiledBlock.{compiled_block}
 use Rattle.stm_desk.specs.DeskView.{start_state}
 use Rattle.stm_run.specs.declared.console.Console.{Console}
 use Rattle.stm_run.specs.ConsoleState.{present_desk, table_of, checkpoint_of_console, events_of, with_checkpoint}
@@ -21,7 +21,7 @@ use Rattle.stm_history_text.specs.Starts.{declares, labels_blocks}
 
 -- over the names, a block that is submitted is what its text checks to
 abbrev pub IsOfItsText : List Named → What → Type 0
-IsOfItsText known (Submitted ticket block) = checked_block known block.text ≡ Ok block
+IsOfItsText known (Submitted ticket block) = compiled_block known block.text ≡ Ok block
 IsOfItsText known (Installed ticket v) = ⊤
 IsOfItsText known (Finished ticket v first_new stale) = ⊤
 IsOfItsText known (Cancelled ticket) = ⊤

@@ -11,7 +11,7 @@ use Rattle.stm_queue.proofs.BoolLemmas.{neither}
 use Rattle.stm_queue.proofs.Merging.{itself}
 use Rattle.stm_queue.proofs.SortedInsertion.{absent_above}
 use Rattle.stm_events.specs.Laws.{AreRising}
-use Rattle.stm_event_lines.specs.WholeBlocks.{CheckedAreWellTyped}
+use Rattle.stm_event_lines.specs.CheckedBlocks.{CheckedAreWellTyped}
 use Rattle.stm_machine.specs.QueueAndIndex.{due_of}
 use Rattle.stm_events.specs.SlowDesk.{Waiter, is_current, find_waiter}
 use Rattle.stm_events.proofs.Rising.{not_above}

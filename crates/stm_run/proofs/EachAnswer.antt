@@ -7,7 +7,7 @@ use Rattle.stm_eval.specs.Laws.{VerdictIsStable}
 use Rattle.stm_parse.specs.ParseFunction.{BlockAnswersAreRight, DeclarationAnswersAreRight}
 use Rattle.stm_store.specs.Naming.{Named}
 use Rattle.stm_store.specs.Tables.{Declared}
-use Rattle.stm_event_lines.specs.WholeBlocks.{CheckedAreWellTyped}
+use Rattle.stm_event_lines.specs.CheckedBlocks.{CheckedAreWellTyped}
 use Rattle.stm_run.specs.declared.command.Command.{Command}
 use Rattle.stm_run.specs.declared.command.Command.TheVariants.{Tvar}
 use Rattle.stm_run.specs.declared.console.Console.{Console}

@@ -38,7 +38,7 @@ use Rattle.stm_machine.specs.Checkpoints.{CheckpointView, waiter_of, block_of_wa
 use Rattle.stm_machine.specs.declared.checkpoint.CheckpointBlock.{CheckpointBlock}
 use Rattle.stm_machine.specs.JobsHandedOut.{sent}
 use Rattle.stm_event_lines.proofs.CheckedBlocks.{checked_blocks_stay}
-use Rattle.stm_event_lines.specs.WholeBlocks.{BlockFault, NotParsed, NotTyped, given_type, block_if_typed, block_if_parsed, checked_block}
+use Rattle.stm_source.specs.CompiledBlock.{given_type, block_if_typed, block_if_parsed, compiled_block}
 use Rattle.stm_events.specs.SlowAtomically.{install_at_once}
 use Rattle.stm_desk.specs.declared.errors.AtomicError.{AtomicError}
 use Rattle.stm_desk.specs.Refusals.{submit_refusal, late_declare_refusal, atomic_refusal, finish_refusal, cancel_refusal, label_refusal}
@@ -46,7 +46,6 @@ use Rattle.stm_desk.specs.DeskView.{DeskView, start_state, state_of, labels_of, 
 use Rattle.stm_desk.specs.Checkpointed.{causes_of}
 use Rattle.stm_desk.specs.Settling.{slow_run, requeued_all, with_whats}
 use Rattle.stm_source.specs.declared.refusal.Refusal.{Refusal}
-use Rattle.stm_source.specs.CompiledBlock.{block_or_refusal, compiled_block}
 use Rattle.stm_source.specs.DeclaredVariable.{variable_of, late_variable_of}
 use Rattle.stm_lines.specs.NumberArgument.{number_argument}
 use Rattle.stm_lines.specs.LineClass.{LineClass, TooLong, Silent, NotAscii, Words, line_class}
@@ -92,29 +91,16 @@ parsed_text : (known : List Named) (text : List ℕ) (block : Block) (o : Result
 parsed_text known text block (Err f) e = cc
 parsed_text known text block (Ok tree) e = typed_text known text block (checked known text [] tree) e
 
-checked_text : (known : List Named) (text : List ℕ) (block : Block) → checked_block known text ≡ Ok block → block.text ≡ text
-unfolding checked_block
+checked_text : (known : List Named) (text : List ℕ) (block : Block) → compiled_block known text ≡ Ok block → block.text ≡ text
+unfolding compiled_block
 checked_text known text block e = parsed_text known text block (parsed_block text) e
 
-abbrev as_ok : Block → Result Block BlockFault
-as_ok b = Ok b
-
-checked_by : (block : Block) (o : Result Block BlockFault) → block_or_refusal o ≡ Ok block → o ≡ Ok block
-checked_by block (Ok b) e = let q : b ≡ block = cc in ap as_ok q
-checked_by block (Err (NotParsed x)) e = cc
-checked_by block (Err (NotTyped x)) e = cc
-
-compiled_of : (known : List Named) (text : List ℕ) (block : Block) → compiled_block known text ≡ Ok block → checked_block known text ≡ Ok block
-unfolding compiled_block
-compiled_of known text block e = checked_by block (checked_block known text) e
-
-of_text : (known : List Named) (text : List ℕ) (block : Block) → compiled_block known text ≡ Ok block → checked_block known block.text ≡ Ok block
+of_text : (known : List Named) (text : List ℕ) (block : Block) → compiled_block known text ≡ Ok block → compiled_block known block.text ≡ Ok block
 of_text known text block e =
-    let c = compiled_of known text block e in
-    subst (λ (t : List ℕ). checked_block known t ≡ Ok block) (sym (checked_text known text block c)) c
+    subst (λ (t : List ℕ). compiled_block known t ≡ Ok block) (sym (checked_text known text block e)) e
 
 -- and stays its block if more names are known
-later_text : (few more : List Named) (block : Block) → checked_block few block.text ≡ Ok block → checked_block (few ++ more) block.text ≡ Ok block
+later_text : (few more : List Named) (block : Block) → compiled_block few block.text ≡ Ok block → compiled_block (few ++ more) block.text ≡ Ok block
 later_text few more block e = checked_blocks_stay few more block.text block e
 
 -- ---- one event more
@@ -233,11 +219,11 @@ module _ (table : List Declared) (checkpoint : Option CheckpointView) (before : 
   declares d text (Ok v) e k = declared d v (late_declare_refusal d v.name v.kind v.value) (text, e) k
   declares d text (Err x) e k = k
 
-  submitted : (d : DeskView) (block : Block) (o : Option SubmitError) → checked_block (state_of d).names block.text ≡ Ok block → Holds d → Holds (submit_block_step d block o).0
+  submitted : (d : DeskView) (block : Block) (o : Option SubmitError) → compiled_block (state_of d).names block.text ≡ Ok block → Holds d → Holds (submit_block_step d block o).0
   submitted d block None f k = more d (Submitted (state_of d).next block) k f
   submitted d block (Some e) f k = k
 
-  submits : (d : DeskView) (r : Result Block Refusal) → ((b : Block) → r ≡ Ok b → checked_block (state_of d).names b.text ≡ Ok b) → Holds d → Holds (submit_text_step d r).0
+  submits : (d : DeskView) (r : Result Block Refusal) → ((b : Block) → r ≡ Ok b → compiled_block (state_of d).names b.text ≡ Ok b) → Holds d → Holds (submit_text_step d r).0
   submits d (Ok b) h k = submitted d b (submit_refusal d b) (h b refl) k
   submits d (Err e) h k = k
 
@@ -302,14 +288,14 @@ module _ (table : List Declared) (checkpoint : Option CheckpointView) (before : 
   whats_more d [] q k = k
   whats_more d (x ∷ xs) q k = whats_more (with_event d 0 x) xs q.1 (more d x k (quiet_text (state_of d).names x q.0))
 
-  ran : (d : DeskView) (block : Block) (o : Option AtomicError) → checked_block (state_of d).names block.text ≡ Ok block → Holds d → Holds (atomically_block_step d block o).0
+  ran : (d : DeskView) (block : Block) (o : Option AtomicError) → compiled_block (state_of d).names block.text ≡ Ok block → Holds d → Holds (atomically_block_step d block o).0
   ran d block None f k =
       let s = state_of d in
       let what = Submitted s.next block in
       whats_more (with_event d 0 what) (install_at_once (after s what) s.next (verdict_on s.store block)) (install_quiet (after s what) s.next (verdict_on s.store block)) (more d what k f)
   ran d block (Some e) f k = k
 
-  atomically_runs : (d : DeskView) (r : Result Block Refusal) → ((b : Block) → r ≡ Ok b → checked_block (state_of d).names b.text ≡ Ok b) → Holds d → Holds (atomically_text_step d r).0
+  atomically_runs : (d : DeskView) (r : Result Block Refusal) → ((b : Block) → r ≡ Ok b → compiled_block (state_of d).names b.text ≡ Ok b) → Holds d → Holds (atomically_text_step d r).0
   atomically_runs d (Ok b) h k = ran d b (atomic_refusal d b) (h b refl) k
   atomically_runs d (Err e) h k = k
 
@@ -463,7 +449,7 @@ unfolding step line_checkpoints
 consoles_grow s line = class_moves s (line_class line)
 
 -- ---- what waits is of its text
-texts_push : (known : List Named) (ws : List Waiter) (w : Waiter) → AreOfTheirTexts known ws → checked_block known w.block.text ≡ Ok w.block → AreOfTheirTexts known (ws ++ w ∷ [])
+texts_push : (known : List Named) (ws : List Waiter) (w : Waiter) → AreOfTheirTexts known ws → compiled_block known w.block.text ≡ Ok w.block → AreOfTheirTexts known (ws ++ w ∷ [])
 texts_push known [] w h e = (e, tt)
 texts_push known (x ∷ ws) w h e = (h.0, texts_push known ws w h.1 e)
 

@@ -9,7 +9,7 @@ use Rattle.stm_parse.specs.ParseFunction.{BlockAnswersAreRight, DeclarationAnswe
 use Rattle.stm_queue.specs.Queue.{is_out, marked, recalled}
 use Rattle.stm_store.specs.Naming.{Named}
 use Rattle.stm_store.specs.Tables.{Declared}
-use Rattle.stm_event_lines.specs.WholeBlocks.{CheckedAreWellTyped}
+use Rattle.stm_event_lines.specs.CheckedBlocks.{CheckedAreWellTyped}
 use Rattle.stm_terms.specs.Limits as limits
 use Rattle.stm_desk.specs.Refusals.{submit_refusal, late_declare_refusal, atomic_refusal, finish_refusal, cancel_refusal, label_refusal}
 use Rattle.stm_machine.specs.Checkpoints.{max_next}

@@ -8,7 +8,7 @@ use Rattle.stm_eval.specs.Laws.{VerdictIsStable}
 use Rattle.stm_parse.specs.ParseFunction.{BlockAnswersAreRight, DeclarationAnswersAreRight}
 use Rattle.stm_store.specs.declared.cell.Cell.{Cell}
 use Rattle.stm_events.specs.Laws.{AreRising}
-use Rattle.stm_event_lines.specs.WholeBlocks.{CheckedAreWellTyped}
+use Rattle.stm_event_lines.specs.CheckedBlocks.{CheckedAreWellTyped}
 use Rattle.stm_events.specs.SlowDesk as slow
 use Rattle.stm_events.specs.SlowDesk.{Since, Waiter, Slow, verdict_on, is_stale_since, find_waiter, standing, standing_since}
 use Rattle.stm_events.specs.States.{HadVerdict, HadVerdicts, IsPossible}

@@ -31,7 +31,7 @@ use Rattle.stm_machine.specs.Checkpoints.{max_next}
 use Rattle.stm_desk.specs.DeskView.{start_state}
 use Rattle.stm_desk.proofs.Starts.{start_next}
 use Rattle.stm_event_lines.specs.Fits.{Is32Bit, FitNumbers}
-use Rattle.stm_event_lines.specs.WholeBlocks.{CheckedAreWellTyped}
+use Rattle.stm_event_lines.specs.CheckedBlocks.{CheckedAreWellTyped}
 use Rattle.stm_run.specs.Console.{initial_console}
 use Rattle.stm_run.specs.ConsoleState.{present_desk}
 use Rattle.stm_run.specs.Laws.{state_after_lines}

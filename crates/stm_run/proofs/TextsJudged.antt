@@ -1,6 +1,6 @@
 -- What texts declare and which blocks they are: a value of its type, a well typed block over the names, or a refusal other than
 -- for lack of memory.
-use Rattle.std.proofs.Common.{◌≡◌, ◌≢◌, ℕ, Bool, true, false, cond, List, [], length, Option, Some, None, Result, Ok, Err, refl, ap, ◌∙◌, subst}
+use Rattle.std.proofs.Common.{◌≡◌, ℕ, Bool, true, false, cond, List, [], length, Option, Some, None, Result, Ok, Err, refl, ap, ◌∙◌, subst}
 use Rattle.std.specs.Prelude.{is_some, not, nat_lt}
 use Rattle.stm_terms.specs.declared.kinds.Ty.{Ty}
 use Rattle.stm_terms.specs.declared.values.Value.{Value}
@@ -23,11 +23,10 @@ use Rattle.stm_store.specs.Cells.{Covers}
 use Rattle.stm_store.specs.Naming.{Named, named_uses, known_kinds}
 use Rattle.stm_store.specs.Tables.{Declared, declared_cells, number_of, may_hold, declare_refusal}
 use Rattle.stm_events.specs.Laws.{IsWellTyped}
-use Rattle.stm_event_lines.specs.WholeBlocks.{CheckedAreWellTyped}
-use Rattle.stm_event_lines.specs.WholeBlocks.{BlockFault, NotParsed, NotTyped, block_if_typed, block_if_parsed, checked_block}
+use Rattle.stm_event_lines.specs.CheckedBlocks.{CheckedAreWellTyped}
+use Rattle.stm_source.specs.CompiledBlock.{block_if_typed, block_if_parsed, compiled_block}
 use Rattle.stm_source.specs.declared.refusal.Refusal.{Refusal}
 use Rattle.stm_source.specs.declared.refusal.Refusal.TheVariants.{Unknown}
-use Rattle.stm_source.specs.CompiledBlock.{block_or_refusal, compiled_block}
 use Rattle.stm_source.specs.DeclaredVariable.{reference_to, initial, unless_refused, with_initial_value, on_declaration, variable_of}
 use Rattle.stm_source.specs.OutOfMemory.{IsOutOfMemory}
 use Rattle.stm_source.proofs.UsesAreCovered.{named_cover}
@@ -68,10 +67,9 @@ abbrev pub BlockOrTold : List Named → Result Block Refusal → Type 0
 BlockOrTold known (Ok b) = IsWellTyped b × ((cells : List (Ty × Value)) → Covers cells (named_uses known) → Covers cells b.uses)
 BlockOrTold known (Err e) = ¬ IsOutOfMemory e
 
-abbrev Judged : List Named → Result Block BlockFault → Type 0
+abbrev Judged : List Named → Result Block Refusal → Type 0
 Judged known (Ok b) = (cells : List (Ty × Value)) → Covers cells (named_uses known) → Covers cells b.uses
-Judged known (Err (NotParsed e)) = e ≢ parse.NoMemory
-Judged known (Err (NotTyped e)) = e ≢ typed.NoMemory
+Judged known (Err e) = ¬ IsOutOfMemory e
 
 module _ (blocks : BlockAnswersAreRight) (declarations : DeclarationAnswersAreRight) (faults : CheckNeverSaysNoMemory) (well_typed : CheckedAreWellTyped) where
   declares_tree : (table : List Declared) (text : List ℕ) (r : Result Tree ParseFault) → IsAnswer IsDeclaration text r → MayHoldOrTold table (on_declaration table (declaration_result text r))
@@ -90,15 +88,13 @@ module _ (blocks : BlockAnswersAreRight) (declarations : DeclarationAnswersAreRi
   parsed_judged known text (Ok tree) h = typed_judged known text tree (checked known text [] tree) refl
   parsed_judged known text (Err f) h = h.0
 
-  text_judged : (known : List Named) (text : List ℕ) → Judged known (checked_block known text)
-  unfolding checked_block
+  text_judged : (known : List Named) (text : List ℕ) → Judged known (compiled_block known text)
+  unfolding compiled_block
   text_judged known text = parsed_judged known text (parsed_block text) (blocks text)
 
-  judged_block : (known : List Named) (text : List ℕ) (r : Result Block BlockFault) → checked_block known text ≡ r → Judged known r → BlockOrTold known (block_or_refusal r)
+  judged_block : (known : List Named) (text : List ℕ) (r : Result Block Refusal) → compiled_block known text ≡ r → Judged known r → BlockOrTold known r
   judged_block known text (Ok b) e h = (well_typed known text b e, h)
-  judged_block known text (Err (NotParsed f)) e h = h
-  judged_block known text (Err (NotTyped f)) e h = h
+  judged_block known text (Err f) e h = h
 
   pub compiled : (known : List Named) (text : List ℕ) → BlockOrTold known (compiled_block known text)
-  unfolding compiled_block
-  compiled known text = judged_block known text (checked_block known text) refl (text_judged known text)
+  compiled known text = judged_block known text (compiled_block known text) refl (text_judged known text)

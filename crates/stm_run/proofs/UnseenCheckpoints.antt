@@ -11,7 +11,7 @@ use Rattle.stm_store.specs.Naming.{Named}
 use Rattle.stm_store.specs.Tables.{Declared}
 use Rattle.stm_queue.specs.Queue.{Entry, recalled}
 use Rattle.stm_events.specs.SlowDesk.{find_waiter}
-use Rattle.stm_event_lines.specs.WholeBlocks.{CheckedAreWellTyped}
+use Rattle.stm_event_lines.specs.CheckedBlocks.{CheckedAreWellTyped}
 use Rattle.stm_machine.specs.Checkpoints.{max_next}
 use Rattle.stm_machine.specs.JobsHandedOut.{sent, block_at}
 use Rattle.stm_desk.specs.DeskView.{DeskView, state_of, labels_of}

@@ -15,7 +15,7 @@ use Rattle.stm_terms.specs.Limits as limits
 use Rattle.stm_event_lines.specs.Fits.{Is32Bit, FitNumbers, FitsNames, FitsVerdict}
 use Rattle.stm_history.specs.Judgement.{AreVariables}
 use Rattle.stm_history_text.specs.Starts.{BlocksAreOfText}
-use Rattle.stm_event_lines.specs.WholeBlocks.{checked_block}
+use Rattle.stm_source.specs.CompiledBlock.{compiled_block}
 use Rattle.stm_desk.specs.DeskView.{DeskView, start_state, state_of}
 use Rattle.stm_source.specs.DeclaredVariable.{late_variable_of}
 use Rattle.stm_run.specs.Console.{initial_console, state_after}
@@ -27,7 +27,7 @@ use Rattle.stm_run.specs.Laws.{state_after_lines}
 -- over the names, a block that is submitted is what its text checks to, and a variable is the one that some text declares; and a block
 -- gets only a label
 abbrev pub IsOfText : List Named → What → Type 0
-IsOfText known (Submitted ticket block) = checked_block known block.text ≡ Ok block
+IsOfText known (Submitted ticket block) = compiled_block known block.text ≡ Ok block
 IsOfText known (Installed ticket v) = ⊤
 IsOfText known (Finished ticket v first_new stale) = ⊤
 IsOfText known (Cancelled ticket) = ⊤
@@ -53,7 +53,7 @@ EventsAreOfConsole =
 -- each waiting block is what its text checks to over the names
 abbrev pub AreOfTheirTexts : List Named → List slow.Waiter → Type 0
 AreOfTheirTexts known [] = ⊤
-AreOfTheirTexts known (w ∷ ws) = (checked_block known w.block.text ≡ Ok w.block) × AreOfTheirTexts known ws
+AreOfTheirTexts known (w ∷ ws) = (compiled_block known w.block.text ≡ Ok w.block) × AreOfTheirTexts known ws
 
 -- so is each that waits in a state, over its names
 abbrev pub WaitersAreOfText : slow.Slow → Type 0

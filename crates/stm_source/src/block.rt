@@ -1,22 +1,23 @@
 //! Blocks from their texts.
 
-ghost use Rattle.std.specs.Prelude.{IfOk, List};
+ghost use Rattle.std.specs.Prelude.{◌≡◌, IfOk, List};
 ghost use Rattle.stm_terms.specs.UnlessNoMemory.{AnswersExcept};
 ghost use Rattle.stm_terms.specs.declared.kinds.Ty.{Ty};
 ghost use Rattle.stm_terms.specs.declared.values.Value.{Value};
 ghost use Rattle.stm_store.specs.Cells.{Covers};
 ghost use Rattle.stm_store.specs.Naming.{named_uses};
-ghost use Rattle.stm_source.specs.CompiledBlock.{compiled_block};
+ghost use Rattle.stm_source.specs.CompiledBlock.{compiled_block, block_of_text};
 ghost use Rattle.stm_source.specs.OutOfMemory.{IsOutOfMemory};
 
 use crate::refusal::Refusal;
 use std::alloc::Global;
-use stm_check::{SharedBlock, Typed, check};
+use stm_check::{SharedBlock, TypeFault, Typed, check};
 use stm_parse::{ParseFault, parse_block};
-use stm_store::Names;
+use stm_store::{DeclareError, Names};
+use stm_terms::NoMemory;
 
 /// The block of a text. Each store that has the named variables has those that it names.
-#[tactic(auto, using(crate::proofs::UsesAreCovered::named_cover), unfolding(crate::specs::CompiledBlock::compiled_block, stm_event_lines::specs::WholeBlocks::checked_block))]
+#[tactic(auto, using(crate::proofs::UsesAreCovered::named_cover), unfolding(crate::specs::CompiledBlock::compiled_block))]
 pub fn compile_block(alloc: Global, known: &Names, text: &str) -> Result<Typed, Refusal>
     ensures block { AnswersExcept IsOutOfMemory (λ b. b) result
         (compiled_block known.now text.now) }
@@ -37,5 +38,18 @@ pub fn compile_shared(alloc: Global, known: &Names, text: &str) -> Result<Shared
     match SharedBlock::new(alloc, block) {
         Ok(block) => Ok(block),
         Err(_) => Err(Refusal::Parsing(ParseFault::NoMemory)),
+    }
+}
+
+/// The block of a text, which many may hold; none if the text is refused.
+pub fn block_of(alloc: Global, known: &Names, text: &str) -> Result<Option<SharedBlock>, NoMemory>
+    ensures { IfOk result (λ o. o ≡ block_of_text known.now text.now) }
+{
+    match compile_shared(alloc, known, text) {
+        Ok(block) => Ok(Some(block)),
+        Err(Refusal::Parsing(ParseFault::NoMemory)) => Err(NoMemory),
+        Err(Refusal::Typing(TypeFault::NoMemory)) => Err(NoMemory),
+        Err(Refusal::Declaring(DeclareError::NoMemory)) => Err(NoMemory),
+        Err(_) => Ok(None),
     }
 }

@@ -1,4 +1,4 @@
-//! Blocks and variables from their texts, as the commands of a run and the lines of scripts take them.
+//! Blocks and variables from their texts, as the commands of a run, the lines of scripts and the lines of histories take them.
 //!
 //! `block` compiles the text of a block over names, `declaring` declares the variable of a text, and `refusal` says why either
 //! is refused. `naming` prints the name of a variable.
@@ -13,4 +13,5 @@ pub mod declaring;
 pub mod naming;
 pub mod refusal;
 
+pub use block::block_of;
 pub use refusal::Refusal;

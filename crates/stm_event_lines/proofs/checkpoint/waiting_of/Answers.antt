@@ -5,7 +5,8 @@ use Rattle.stm_events.specs.Delivered.{Delivered}
 use Rattle.stm_events.specs.declared.kept_cause.KeptCause.{KeptCause}
 use Rattle.stm_events.specs.Labels.{is_label}
 use Rattle.stm_event_lines.specs.CheckpointLines.{FitsCause, FitsDelivery}
-use Rattle.stm_event_lines.specs.Fields.{block_of_text, text_field}
+use Rattle.stm_event_lines.specs.Fields.{text_field}
+use Rattle.stm_source.specs.CompiledBlock.{block_of_text}
 use Rattle.stm_event_lines.proofs.Checkpoints.{own_block}
 use Rattle.stm_event_lines.proofs.checkpoint.waiting_of.Goals as goal
 

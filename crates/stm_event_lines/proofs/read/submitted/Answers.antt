@@ -1,5 +1,5 @@
 use Rattle.std.proofs.Common.{◌≡◌, Some, sym, ◌∙◌}
-use Rattle.stm_event_lines.specs.Fields.{block_of_text}
+use Rattle.stm_source.specs.CompiledBlock.{block_of_text}
 use Rattle.stm_event_lines.proofs.Ranges.{own_text}
 use Rattle.stm_event_lines.proofs.read.submitted.Goals as goal
 
