@@ -1,4 +1,4 @@
-//! What holds of the exit statuses, and the laws of `stm_run` and `stm_command_line`: what holds of the console's text and of the words.
+//! What holds of the exit statuses, and the laws of `stm_command_line`: what holds of the words.
 
 ghost use Rattle.stm_console.specs.StatusLaws.{WordsAskForThis, StatusesAreFew, RefusedDoNothing, RequestsAreTaken, OnlyJudgesFindWrong, WrongFilesDoNothing, DoneRunsAnswer, DoneFilesAnswer, DoneStormsReport, DoneExplorationsAreRight, DoneVersionsAreWritten, OtherRunsWriteAPart, OtherFilesWriteAPart, OtherChecksWriteAPart, OtherVersionsWriteAPart};
 
@@ -7,7 +7,6 @@ pub use stm_command_line::laws::{
     words_of_a_check_are_accepted, words_of_a_run_are_accepted,
     words_of_a_storm_are_those_of_a_run,
 };
-pub use stm_run::laws::{each_line_is_answered, queue_is_a_set_of_tickets, verdicts_are_shown};
 
 /// What the program is asked for, by what clap prints of its words.
 pub fn words_ask_for_this()

@@ -8,7 +8,7 @@ use Rattle.stm_lines.proofs.ReadLines.{whole_lines_from-whole}
 use Rattle.stm_lines.specs.Lines.{drop_return, whole_lines_of, NoLineFeed}
 use Rattle.stm_run.specs.declared.console.Console.{Console}
 use Rattle.stm_run.specs.Console.{answer_to, answers_to, state_after}
-use Rattle.stm_run.specs.Laws.{state_after_lines}
+use Rattle.stm_run.specs.AfterLines.{state_after_lines}
 use Rattle.stm_embed.specs.Feeding.{AreWholeLines, HasFed}
 
 answers_to-append : (s : Console) (xs ys : List (List ℕ)) → answers_to s (xs ++ ys) ≡ answers_to s xs ++ answers_to (state_after_lines s xs) ys

@@ -4,7 +4,7 @@ use Rattle.stm_terms.specs.Limits.{max_events}
 use Rattle.stm_lines.specs.Lines.{whole_lines_of}
 use Rattle.stm_run.specs.declared.console.Console.{Console}
 use Rattle.stm_run.specs.Console.{answers_to, initial_console}
-use Rattle.stm_run.specs.Laws.{state_after_lines}
+use Rattle.stm_run.specs.AfterLines.{state_after_lines}
 use Rattle.stm_embed.specs.declared.feeding.Embedded.{Embedded}
 
 -- what the console knows

@@ -23,7 +23,7 @@ mod version;
 ghost use Rattle.std.specs.Prelude.{◌≡◌, ◌≢◌, ◌<◌, ◌≤◌, ℕ, List, [], ◌∷◌, ◌++◌, false, length, take, drop, IfOk, IsSomeAnd, IsTrue, OnErr};
 ghost use Rattle.stm_lines.specs.Lines.{whole_lines_of, NoLineFeed};
 ghost use Rattle.stm_run.specs.Console.{answers_to};
-ghost use Rattle.stm_run.specs.Laws.{state_after_lines};
+ghost use Rattle.stm_run.specs.AfterLines.{state_after_lines};
 ghost use Rattle.stm_command_line.specs.declared.version.TheConstants.{VERSION};
 ghost use Rattle.stm_embed.specs.Checking.{IsJudgement, found_status, numbers_of};
 ghost use Rattle.stm_embed.specs.Exploring.{IsExplored, ended_status, explore_options, invalid_line};

@@ -2,27 +2,17 @@
 use Rattle.std.proofs.Common.{◌≡◌, ℕ, ◌<◌, ◌≤◌, Bool, true, false, not, ◌||◌, cond, List, [], ◌∷◌, map, filter, Some, refl, sym, ap, ap₂, subst, ◌∙◌, arith}
 use Rattle.std.specs.Prelude.{nat_eq, nat_lt}
 use Rattle.std.proofs.lemmas.Bool.Decides.{nat_tests}
-use Rattle.stm_check.specs.Laws.{CheckNeverSaysNoMemory}
-use Rattle.stm_eval.specs.Laws.{VerdictIsStable}
-use Rattle.stm_parse.specs.ParseFunction.{BlockAnswersAreRight, DeclarationAnswersAreRight}
 use Rattle.stm_queue.specs.Queue.{Entry, tickets}
 use Rattle.stm_queue.specs.SortedTickets.{RisesAbove, IsRising, member}
 use Rattle.stm_queue.proofs.BoolLemmas.{neither}
 use Rattle.stm_queue.proofs.Merging.{itself}
 use Rattle.stm_queue.proofs.SortedInsertion.{absent_above}
 use Rattle.stm_events.specs.Laws.{AreRising}
-use Rattle.stm_event_lines.specs.CheckedBlocks.{CheckedAreWellTyped}
 use Rattle.stm_machine.specs.QueueAndIndex.{due_of}
 use Rattle.stm_events.specs.SlowDesk.{Waiter, is_current, find_waiter}
 use Rattle.stm_events.proofs.Rising.{not_above}
-use Rattle.stm_desk.specs.DeskView.{state_of}
-use Rattle.stm_run.specs.Console.{initial_console}
-use Rattle.stm_run.specs.ConsoleState.{present_desk}
 use Rattle.stm_commands.specs.DueTickets.{due_tickets, tickets_out}
-use Rattle.stm_run.specs.Laws.{QueueIsOfDueTickets, state_after_lines}
 use Rattle.stm_commands.proofs.KeptQueue.{QueueKept, filtered_above, member_tickets}
-use Rattle.stm_run.proofs.ReachedConsole.{present_stands, reached}
-use Rattle.stm_run.proofs.StandingDesk.{stands_sound}
 
 -- ---- rising lists with the same members are equal
 from_above : (k : ℕ) (ts : List ℕ) → RisesAbove k ts → IsRising ts
@@ -78,7 +68,7 @@ member_due : (t n k : ℕ) (ws : List Waiter) → AreRising n k ws → member t 
 member_due t n k [] r = refl
 member_due t n k (w ∷ ws) r = due_step (nat_eq t w.ticket) (not (is_current w)) t n k w ws refl refl r (member_due t n w.ticket ws r.2)
 
-due_rising : (n : ℕ) (ws : List Waiter) → AreRising n 0 ws → IsRising (due_tickets ws)
+pub due_rising : (n : ℕ) (ws : List Waiter) → AreRising n 0 ws → IsRising (due_tickets ws)
 due_rising n ws r = from_above 0 (due_tickets ws) (filtered_above (λ w. not (is_current w)) n 0 ws r)
 
 pub tickets_are_due : (n : ℕ) (ws : List Waiter) (es : List Entry) → AreRising n 0 ws → QueueKept ws es → tickets es ≡ due_tickets ws
@@ -137,13 +127,3 @@ entries_above k (e ∷ es) r = entries_first e es r.1 (entries_above e.0 es r.1)
 pub entries_are : (es : List Entry) → IsRising (tickets es) → es ≡ entries (tickets_out es) (tickets es)
 entries_are [] r = refl
 entries_are (e ∷ es) r = entries_first e es r (entries_above e.0 es r)
-
-pub queue_is_of_due : BlockAnswersAreRight → DeclarationAnswersAreRight → CheckNeverSaysNoMemory → VerdictIsStable → CheckedAreWellTyped → QueueIsOfDueTickets
-queue_is_of_due blocks declarations faults stable checked max_events low before =
-    let s = state_after_lines (initial_console max_events) before in
-    let k = present_stands s (reached blocks declarations faults stable checked max_events low before) in
-    let d = (present_desk s).desk in
-    let r = (stands_sound d (present_desk s).jobs k).possible.rising in (
-      entries_are d.pending k.queue.rising ∙ ap (entries (tickets_out d.pending)) (tickets_are_due (state_of d).next (state_of d).waiters d.pending r k.queue),
-      due_rising (state_of d).next (state_of d).waiters r,
-    )

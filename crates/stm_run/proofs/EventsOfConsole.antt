@@ -69,7 +69,7 @@ use Rattle.stm_run.specs.ConsoleState.{present_desk, table_of, checkpoint_of_con
 use Rattle.stm_run.specs.Declaring.{tvar_text_step, tvar_step}
 use Rattle.stm_run.specs.Fitting.{IsOfText, AreOfConsole, IsOfConsole, EventsAreOfConsole, AreOfTheirTexts, WaitersAreOfText, WaitAsTheirTexts, WaitingStayOfText, VariablesFit, VariablesFitLines, VariablesStayFit}
 use Rattle.stm_run.specs.Growing.{Grows, ConsolesGrow}
-use Rattle.stm_run.specs.Laws.{state_after_lines}
+use Rattle.stm_run.specs.AfterLines.{state_after_lines}
 use Rattle.stm_run.specs.LineCheckpoints.{command_checkpoints, word_checkpoints, class_checkpoints, line_checkpoints}
 use Rattle.stm_run.proofs.DeclaredVariables.{MayBeNext, may_be_next}
 use Rattle.stm_parse.specs.ParseFunction.{DeclarationAnswersAreRight}

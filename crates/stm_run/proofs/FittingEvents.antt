@@ -12,7 +12,7 @@ use Rattle.stm_source.specs.DeclaredVariable.{late_variable_of}
 use Rattle.stm_desk.specs.DeskView.{start_state}
 use Rattle.stm_run.specs.Console.{initial_console}
 use Rattle.stm_run.specs.ConsoleState.{present_desk}
-use Rattle.stm_run.specs.Laws.{state_after_lines}
+use Rattle.stm_run.specs.AfterLines.{state_after_lines}
 use Rattle.stm_run.specs.Fitting.{IsOfText, AreOfConsole, EventsAreOfConsole, AreNumbersSmall, HaveSmallNumbers, NumbersAreSmall, IsVerdictInRange, AreVerdictsInRange, EventsFitNames, EventsFitLines}
 use Rattle.stm_run.proofs.DeclaredVariables.{LateOrTold, late_judged, fits_value}
 

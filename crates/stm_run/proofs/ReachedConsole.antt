@@ -41,7 +41,7 @@ use Rattle.stm_run.specs.Console.{command_named, state_after, initial_console, d
 use Rattle.stm_run.specs.ConsoleState.{present_desk}
 use Rattle.stm_run.specs.Declaring.{tvar_text_step, tvar_step}
 use Rattle.stm_run.specs.Fitting.{VariablesFit}
-use Rattle.stm_run.specs.Laws.{state_after_lines}
+use Rattle.stm_run.specs.AfterLines.{state_after_lines}
 use Rattle.stm_run.specs.LineCheckpoints.{auto_checkpoint}
 use Rattle.stm_run.proofs.ArgumentCases.{either_has, number_has, nothing_has}
 use Rattle.stm_run.proofs.DeliveredJobs.{take_stands, delivered_stands, evaluated_stands}

@@ -34,7 +34,7 @@ use Rattle.stm_event_lines.specs.Fits.{Is32Bit, FitNumbers}
 use Rattle.stm_event_lines.specs.CheckedBlocks.{CheckedAreWellTyped}
 use Rattle.stm_run.specs.Console.{initial_console}
 use Rattle.stm_run.specs.ConsoleState.{present_desk}
-use Rattle.stm_run.specs.Laws.{state_after_lines}
+use Rattle.stm_run.specs.AfterLines.{state_after_lines}
 use Rattle.stm_run.specs.Fitting.{IsReferenceSmall, AreNumbersSmall, HaveSmallNumbers, NumbersAreSmall}
 use Rattle.stm_run.proofs.ArgumentCases.{either_has}
 use Rattle.stm_run.proofs.ReachedConsole.{present_stands, reached}

@@ -21,7 +21,7 @@ use Rattle.stm_source.specs.DeclaredVariable.{late_variable_of}
 use Rattle.stm_run.specs.Console.{initial_console, state_after}
 use Rattle.stm_run.specs.ConsoleState.{present_desk, table_of, checkpoint_of_console, with_checkpoint}
 use Rattle.stm_run.specs.declared.console.Console.{Console}
-use Rattle.stm_run.specs.Laws.{state_after_lines}
+use Rattle.stm_run.specs.AfterLines.{state_after_lines}
 
 -- ---- what they are of
 -- over the names, a block that is submitted is what its text checks to, and a variable is the one that some text declares; and a block

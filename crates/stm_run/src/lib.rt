@@ -2,17 +2,17 @@
 //!
 //! `run` (`streams`) writes exactly the text that `specs/Console` gives for what it reads. `session` is a run under way, and
 //! `console` what the console knows: the declared variables, or an open desk of `stm_commands`; `command` has the words of the
-//! commands, `limit` how many events a desk takes, and `reply` where an answer is. `laws` says what holds of the text.
+//! commands, `limit` how many events a desk takes, and `reply` where an answer is. `fitting_laws` says that what happens on a desk can be
+//! in lines of a history; what holds of the text itself is in `stm_run_laws`.
 //!
 //! What a reader has to believe is in these modules of specs/: `Console` has the step of a line and what is written for an
-//! input, over `ConsoleState`, what is known between two lines; `Declaring` has the step of `tvar` (those of the other
-//! commands are in `stm_commands`); `Laws` what holds of all texts.
+//! input, over `ConsoleState`, what is known between two lines, and `AfterLines`; `Declaring` has the step of `tvar` (those of the
+//! other commands are in `stm_commands`).
 #![tactic(auto)]
 
 pub mod command;
 pub mod console;
 pub mod fitting_laws;
-pub mod laws;
 pub mod limit;
 pub mod reply;
 pub mod session;

@@ -14,7 +14,7 @@ use Rattle.stm_run.specs.declared.command.Command.TheVariants.{History, Events, 
 use Rattle.stm_run.specs.declared.console.Console.{Console}
 use Rattle.stm_run.specs.Console.{command_named, answer_to, answers_to, state_after, initial_console}
 use Rattle.stm_run.specs.ConsoleState.{present_desk, is_open, table_of, with_checkpoint}
-use Rattle.stm_run.specs.Laws.{state_after_lines}
+use Rattle.stm_run.specs.AfterLines.{state_after_lines}
 use Rattle.stm_run.specs.LineCheckpoints.{Turn, turn_lines, answers_by}
 
 -- ---- consoles that look alike

@@ -1,5 +1,5 @@
-use Rattle.stm_run.proofs.EachAnswer.{each_line}
-use Rattle.stm_run.proofs.laws.each_line_is_answered.Goals as goal
+use Rattle.stm_run_laws.proofs.EachAnswer.{each_line}
+use Rattle.stm_run_laws.proofs.laws.each_line_is_answered.Goals as goal
 
 pub returns : goal.returns
 returns c =

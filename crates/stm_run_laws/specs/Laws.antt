@@ -6,8 +6,8 @@ use Rattle.stm_queue.specs.SortedTickets.{IsRising}
 use Rattle.stm_events.specs.SlowDesk as slow
 use Rattle.stm_terms.specs.Limits as limits
 use Rattle.stm_desk.specs.DeskView.{state_of}
-use Rattle.stm_run.specs.declared.console.Console.{Console}
-use Rattle.stm_run.specs.Console.{initial_console, answer_to, state_after}
+use Rattle.stm_run.specs.AfterLines.{state_after_lines}
+use Rattle.stm_run.specs.Console.{initial_console, answer_to}
 use Rattle.stm_run.specs.ConsoleState.{present_desk}
 use Rattle.stm_commands.specs.DueTickets.{due_tickets, queue_for, tickets_out}
 use Rattle.stm_lines.specs.LineClass.{Silent, line_class}
@@ -15,11 +15,6 @@ use Rattle.stm_lines.specs.LineClass.{Silent, line_class}
 -- a text that ends with a line feed
 abbrev pub EndsALine : List ℕ → Type 0
 EndsALine text = (front : List ℕ) × (text ≡ front ++ 10 ∷ [])
-
--- what the console knows after some lines
-abbrev pub state_after_lines : Console → List (List ℕ) → Console
-state_after_lines s [] = s
-state_after_lines s (line ∷ rest) = state_after_lines (state_after s line) rest
 
 -- whatever lines came before, and however many events the history may have, the answer to a line that is neither blank nor a
 -- comment is a text that ends with a line feed

@@ -46,16 +46,16 @@ use Rattle.stm_run.specs.declared.console.Console.{Console}
 use Rattle.stm_run.specs.declared.console.Console.TheVariants.{Declaring, Open}
 use Rattle.stm_run.specs.Console.{command_named, answer_to, answers_to, state_after, initial_console, desk_step, command_step, word_step, class_step, step}
 use Rattle.stm_run.specs.ConsoleState.{present_desk, is_open, events_of, with_checkpoint}
-use Rattle.stm_run.specs.Laws.{state_after_lines}
+use Rattle.stm_run.specs.AfterLines.{state_after_lines}
 use Rattle.stm_run.specs.LineCheckpoints.{auto_checkpoint, answers_by, command_checkpoints, word_checkpoints, class_checkpoints, line_checkpoints, Turn, turn_lines, refused_step, line_step}
-use Rattle.stm_run.specs.Unseen.{LookAlike, is_of_history, word_is_of_history, class_is_of_history, line_is_of_history, HaveRoom, CheckpointsAreUnseenByCommands}
-use Rattle.stm_run.proofs.AlikeSteps.{AlikeSteps, NotFull, submit_alike, declare_alike, atomically_alike, cancel_alike, label_alike, finish_alike, handback_alike, deliver_alike, eval_alike, settle_order, drain_order, run_alike}
-use Rattle.stm_run.proofs.AlikeLabels.{labels_stay}
-use Rattle.stm_run.proofs.AlikeReasons.{stands_reasons}
+use Rattle.stm_run_laws.specs.Unseen.{LookAlike, is_of_history, word_is_of_history, class_is_of_history, line_is_of_history, HaveRoom, CheckpointsAreUnseenByCommands}
+use Rattle.stm_run_laws.proofs.AlikeSteps.{AlikeSteps, NotFull, submit_alike, declare_alike, atomically_alike, cancel_alike, label_alike, finish_alike, handback_alike, deliver_alike, eval_alike, settle_order, drain_order, run_alike}
+use Rattle.stm_run_laws.proofs.AlikeLabels.{labels_stay}
+use Rattle.stm_run_laws.proofs.AlikeReasons.{stands_reasons}
 use Rattle.stm_run.proofs.DeclaredVariables.{LateOrTold, late_judged}
 use Rattle.stm_run.proofs.GivenLabels.{GivesLabel, gives_label}
 use Rattle.stm_run.proofs.DeliveredJobs.{delivered_stands}
-use Rattle.stm_run.proofs.LookingAlike.{AlikeDesks, same_store, same_names, same_found, alike_pending, show_alike, board_alike, text_alike, reads_alike, ready_alike, jobs_alike}
+use Rattle.stm_run_laws.proofs.LookingAlike.{AlikeDesks, same_store, same_names, same_found, alike_pending, show_alike, board_alike, text_alike, reads_alike, ready_alike, jobs_alike}
 use Rattle.stm_run.proofs.ReachedConsole.{IsReached, auto_reached, line_reached, start_reached, reached}
 use Rattle.stm_run.proofs.SoundStates.{unseen}
 use Rattle.stm_run.proofs.StandingDesk.{Stands, stands_sound, stands_typed, checkpoint_is, stands_checkpointed}

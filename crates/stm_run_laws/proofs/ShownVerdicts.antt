@@ -16,7 +16,8 @@ use Rattle.stm_events.proofs.Possible.{current_verdict}
 use Rattle.stm_desk.specs.DeskView.{state_of}
 use Rattle.stm_run.specs.Console.{initial_console}
 use Rattle.stm_run.specs.ConsoleState.{present_desk}
-use Rattle.stm_run.specs.Laws.{state_after_lines, HasVerdict, VerdictsAreShown}
+use Rattle.stm_run.specs.AfterLines.{state_after_lines}
+use Rattle.stm_run_laws.specs.Laws.{HasVerdict, VerdictsAreShown}
 use Rattle.stm_run.proofs.LegalSettling.{itself, apart}
 use Rattle.stm_run.proofs.ReachedConsole.{present_stands, reached}
 use Rattle.stm_run.proofs.StandingDesk.{stands_sound}

@@ -19,10 +19,11 @@ use Rattle.stm_lines.specs.LineClass.{LineClass, TooLong, Silent, NotAscii, Word
 use Rattle.stm_run.specs.Console.{command_named, initial_console, command_step, word_step, class_step, step}
 use Rattle.stm_run.specs.ConsoleState.{present_desk}
 use Rattle.stm_run.specs.Declaring.{tvar_line, tvar_text_step, tvar_step}
-use Rattle.stm_run.specs.Laws.{EndsALine, state_after_lines, EachLineIsAnswered}
+use Rattle.stm_run.specs.AfterLines.{state_after_lines}
+use Rattle.stm_run_laws.specs.Laws.{EndsALine, EachLineIsAnswered}
 use Rattle.stm_run.proofs.DeclaredVariables.{late_judged}
-use Rattle.stm_run.proofs.DeskAnswers.{desk_ends}
-use Rattle.stm_run.proofs.EndedLines.{refused_ends, refusal_ends}
+use Rattle.stm_run_laws.proofs.DeskAnswers.{desk_ends}
+use Rattle.stm_run_laws.proofs.EndedLines.{refused_ends, refusal_ends}
 use Rattle.stm_run.proofs.TextsJudged.{MayHoldOrTold, declares, BlockOrTold, compiled}
 use Rattle.stm_run.proofs.ReachedConsole.{IsReached, present_stands, reached}
 

@@ -1,6 +1,6 @@
-use Rattle.stm_run.proofs.DueQueue.{queue_is_of_due}
+use Rattle.stm_run_laws.proofs.QueueOfConsole.{queue_is_of_due}
 use Rattle.stm_commands.proofs.OutTickets.{out_tickets_are_a_set}
-use Rattle.stm_run.proofs.laws.queue_is_a_set_of_tickets.Goals as goal
+use Rattle.stm_run_laws.proofs.laws.queue_is_a_set_of_tickets.Goals as goal
 
 pub returns-clause-queue : goal.returns-clause-queue
 returns-clause-queue c =

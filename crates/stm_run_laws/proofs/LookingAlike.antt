@@ -32,8 +32,8 @@ use Rattle.stm_commands.specs.Labelling.{label_text, block_text_line, board_line
 use Rattle.stm_commands.specs.OpenDesk.{HandedOut}
 use Rattle.stm_commands.specs.Questions.{ready_tickets, ready_text}
 use Rattle.stm_commands.specs.Endings.{tickets_text}
-use Rattle.stm_run.proofs.AlikeLabels.{labels_later, after_alike}
-use Rattle.stm_run.proofs.AlikeReasons.{AlikeReasons, reasons_next, reasons_pending}
+use Rattle.stm_run_laws.proofs.AlikeLabels.{labels_later, after_alike}
+use Rattle.stm_run_laws.proofs.AlikeReasons.{AlikeReasons, reasons_next, reasons_pending}
 use Rattle.stm_run.proofs.StandingDesk.{Stands, state_later}
 
 -- the second has no longer a history than the first, if b says so

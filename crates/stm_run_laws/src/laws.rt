@@ -2,8 +2,8 @@
 //! does nothing but call the laws that it rests on.
 
 ghost use Rattle.stm_commands.specs.DueTickets.{OutTicketsAreASet};
-ghost use Rattle.stm_run.specs.Laws.{EachLineIsAnswered, QueueIsOfDueTickets, VerdictsAreShown};
-ghost use Rattle.stm_run.specs.Unseen.{CheckpointsAreUnseenByCommands};
+ghost use Rattle.stm_run_laws.specs.Laws.{EachLineIsAnswered, QueueIsOfDueTickets, VerdictsAreShown};
+ghost use Rattle.stm_run_laws.specs.Unseen.{CheckpointsAreUnseenByCommands};
 
 /// A line that is neither blank nor a comment is answered by a text that ends with a line feed, whatever lines came before
 /// it. So `try` always has a verdict to tell, `finish` an effect, and an out-of-memory error is the text of no refusal.

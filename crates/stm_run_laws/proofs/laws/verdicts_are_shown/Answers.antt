@@ -1,5 +1,5 @@
-use Rattle.stm_run.proofs.ShownVerdicts.{shown}
-use Rattle.stm_run.proofs.laws.verdicts_are_shown.Goals as goal
+use Rattle.stm_run_laws.proofs.ShownVerdicts.{shown}
+use Rattle.stm_run_laws.proofs.laws.verdicts_are_shown.Goals as goal
 
 pub returns : goal.returns
 returns c =

@@ -54,9 +54,9 @@ use Rattle.stm_commands.specs.OpenDesk.{HandedOut, OpenDesk, known, present, on_
 use Rattle.stm_commands.specs.Questions.{ready_tickets, ready_text, ready_answer, reason_text, why_line, why_answer, later_events_text, events_answer}
 use Rattle.stm_commands.specs.Refusals.{refused}
 use Rattle.stm_run.specs.Console.{desk_step}
-use Rattle.stm_run.specs.Laws.{EndsALine}
+use Rattle.stm_run_laws.specs.Laws.{EndsALine}
 use Rattle.stm_run.proofs.ArgumentCases.{either_has, number_has, nothing_has}
-use Rattle.stm_run.proofs.EndedLines.{refused_ends, refusal_ends, late_declare_error_ends, submit_error_ends, atomic_error_ends, deliver_error_ends, finish_error_ends, cancel_error_ends, label_error_ends, history_ends, counted_end}
+use Rattle.stm_run_laws.proofs.EndedLines.{refused_ends, refusal_ends, late_declare_error_ends, submit_error_ends, atomic_error_ends, deliver_error_ends, finish_error_ends, cancel_error_ends, label_error_ends, history_ends, counted_end}
 use Rattle.stm_run.proofs.DeclaredVariables.{LateOrTold}
 use Rattle.stm_run.proofs.TextsJudged.{BlockOrTold}
 use Rattle.stm_run.proofs.StandingDesk.{Stands, stands_sound}

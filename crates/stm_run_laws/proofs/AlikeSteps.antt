@@ -63,12 +63,12 @@ use Rattle.stm_commands.specs.Jobs.{jobs_of, delivery_first, delivery_refusal, i
 use Rattle.stm_commands.specs.Labelling.{label_ticket_step}
 use Rattle.stm_commands.specs.OpenDesk.{HandedOut}
 use Rattle.stm_commands.specs.Refusals.{refused}
-use Rattle.stm_run.specs.Unseen.{TellsFull}
+use Rattle.stm_run_laws.specs.Unseen.{TellsFull}
 use Rattle.stm_run.proofs.RunAtOnce.{EachTyped, run_allowed, run_typed}
 use Rattle.stm_run.proofs.DeliveredJobs.{next_stands, queued_stand}
 use Rattle.stm_run.proofs.DeskMoves.{submitted_stands, declared_stands, finished_stands, cancelled_stands, labelled_stands}
 use Rattle.stm_run.proofs.LegalSettling.{IsAllowed, IsLawful, next_allowed, drain_allowed}
-use Rattle.stm_run.proofs.LookingAlike.{AlikeDesks, MayHappen, same_store, same_next, same_waiters, same_found, same_answers, alike_event, allowed_by, alike_pending, full_too, same_refusal, jobs_alike}
+use Rattle.stm_run_laws.proofs.LookingAlike.{AlikeDesks, MayHappen, same_store, same_next, same_waiters, same_found, same_answers, alike_event, allowed_by, alike_pending, full_too, same_refusal, jobs_alike}
 use Rattle.stm_run.proofs.StandingDesk.{Stands, state_later}
 use Rattle.stm_run.proofs.DeclaredVariables.{LateOrTold}
 use Rattle.stm_run.proofs.TextsJudged.{BlockOrTold}

@@ -1,5 +1,5 @@
-use Rattle.stm_run.proofs.UnseenCheckpoints.{unseen_by_commands}
-use Rattle.stm_run.proofs.laws.no_answer_differs.Goals as goal
+use Rattle.stm_run_laws.proofs.UnseenCheckpoints.{unseen_by_commands}
+use Rattle.stm_run_laws.proofs.laws.no_answer_differs.Goals as goal
 
 pub returns : goal.returns
 returns c =

@@ -32,7 +32,7 @@ use Rattle.stm_source.specs.declared.refusal.Refusal.{Refusal}
 use Rattle.stm_source.specs.declared.refusal.Refusal.TheVariants.{Parsing, Typing, Unknown, Declaring}
 use Rattle.stm_commands.specs.Refusals.{refused, refused_at, refused_variable, refusal_text, late_declare_error_text, submit_error_text, atomic_error_text, deliver_error_text, finish_error_text, cancel_error_text, label_error_text}
 use Rattle.stm_source.specs.OutOfMemory.{IsOutOfMemory}
-use Rattle.stm_run.specs.Laws.{EndsALine}
+use Rattle.stm_run_laws.specs.Laws.{EndsALine}
 
 -- ---- refusals
 pub refused_ends : (name : List ℕ) → EndsALine (refused name)

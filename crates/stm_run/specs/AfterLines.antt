@@ -1,0 +1,9 @@
+-- What the console knows after some lines.
+use Rattle.std.specs.Prelude.{ℕ, List, [], ◌∷◌}
+use Rattle.stm_run.specs.declared.console.Console.{Console}
+use Rattle.stm_run.specs.Console.{state_after}
+
+-- what the console knows after some lines
+abbrev pub state_after_lines : Console → List (List ℕ) → Console
+state_after_lines s [] = s
+state_after_lines s (line ∷ rest) = state_after_lines (state_after s line) rest

@@ -1,0 +1,10 @@
+mod AlikeLabels
+mod AlikeReasons
+mod AlikeSteps
+mod DeskAnswers
+mod EachAnswer
+mod EndedLines
+mod LookingAlike
+mod QueueOfConsole
+mod ShownVerdicts
+mod UnseenCheckpoints
