@@ -1,6 +1,6 @@
 //! The check of expressions.
 
-ghost use Rattle.std.specs.Prelude.{◌≡◌, ◌≤◌, IfOk, length};
+ghost use Rattle.std.specs.Prelude.{◌≡◌, length};
 ghost use Rattle.std.specs.Str.{IsAscii};
 ghost use Rattle.stm_terms.specs.Ast.{term_of};
 ghost use Rattle.stm_terms.specs.ParsedAst as raw;

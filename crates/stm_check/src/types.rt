@@ -1,8 +1,8 @@
 //! Types of operators, references and branches.
 
-ghost use Rattle.std.specs.Prelude.{◌≡◌, ◌<◌, ◌≤◌, Some, None, IsTrue, option_map, IfSome};
+ghost use Rattle.std.specs.Prelude.{◌≡◌, ◌<◌, ◌≤◌, Some, None, option_map};
 ghost use Rattle.stm_terms.specs.Limits.{most_refs};
-ghost use Rattle.stm_terms.specs.Typing.{int_ty, bool_ty, unit_ty, var_ty, deref_ty, same_ty, join_types, result_type};
+ghost use Rattle.stm_terms.specs.Typing.{var_ty, deref_ty, same_ty, join_types, result_type};
 ghost use Rattle.stm_check.specs.CheckFunction.{wanted, given, as_wanted};
 
 use stm_terms::expr::Op;

@@ -7,7 +7,6 @@ use Rattle.clap.specs.Words.{Kinds, HasKind}
 use Rattle.clap.specs.Values.{kind_of}
 use Rattle.clap.specs.declared.error.Error.{Error}
 use Rattle.clap.specs.declared.error.kind.ErrorKind.TheVariants.{DisplayHelp, DisplayVersion, OutOfMemory}
-use Rattle.stm_terms.specs.Texts.{IsPrefixOf}
 use Rattle.stm_lines.specs.RunStatus.{status_of}
 use Rattle.stm_lines.specs.declared.run_fault.RunFault.{RunFault}
 use Rattle.stm_lines.specs.declared.run_fault.RunFault.TheVariants as run_fault
@@ -23,7 +22,7 @@ use Rattle.stm_command_line.specs.declared.command_line.Request.TheVariants.{Run
 use Rattle.stm_command_line.proofs.WordAnswers.{help_kind, mistake_kind, memory_kind, version_kind}
 use Rattle.stm_console.specs.Checking.{BeginsFindingText}
 use Rattle.stm_console.specs.ExitStatus.{IsFailure, storm_status}
-use Rattle.stm_console.specs.Program.{Asked, Do, Help, Mistake, Several, Version, asked_by, asked_of, ProgramDoes, ReadsNothing, Streams, Writes, WritesNothing, WritesPartOf}
+use Rattle.stm_console.specs.Program.{Do, Help, Mistake, Several, Version, asked_by, asked_of, ProgramDoes, ReadsNothing, Streams, Writes, WritesNothing, WritesPartOf}
 use Rattle.stm_console.specs.Why.{BeginsAnswerWhy}
 use Rattle.stm_console.specs.declared.status.TheConstants.{DONE, NOT_RIGHT, NO_MEMORY, REFUSED}
 

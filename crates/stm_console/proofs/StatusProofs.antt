@@ -1,5 +1,5 @@
 -- What the exit statuses say follows from what the program does.
-use Rattle.std.proofs.Common.{◌≡◌, ◌++◌, ℕ, List, [], ◌∷◌, inl, inr, refl, sym, ap, subst, arith, Option, Some, None, true}
+use Rattle.std.proofs.Common.{◌≡◌, ℕ, List, [], ◌∷◌, inl, inr, refl, sym, ap, subst, arith, Option, Some, None, true}
 use Rattle.std.specs.Prelude.{◌⊎◌, IfSome}
 use Rattle.std.proofs.lemmas.List.{append-nil}
 use Rattle.clap.specs.Words.{Kinds}
@@ -10,7 +10,7 @@ use Rattle.stm_command_line.specs.declared.command_line.Request.TheVariants.{Run
 use Rattle.stm_command_line.proofs.WordAnswers.{help_alone, version_alone}
 use Rattle.stm_console.specs.Checking.{BeginsFindingText, IsFinding, finding_text}
 use Rattle.stm_console.specs.ExitStatus.{IsFailure, finding_status}
-use Rattle.stm_console.specs.Program.{Asked, Do, Help, Mistake, Several, Version, asked_of, ProgramDoes, Streams, Writes}
+use Rattle.stm_console.specs.Program.{Do, Help, Mistake, Several, Version, asked_of, ProgramDoes, Streams, Writes}
 use Rattle.stm_console.specs.StatusLaws.{WordsAskForThis, StatusesAreFew, RefusedDoNothing, RequestsAreTaken, Judges, OnlyJudgesFindWrong, WrongFilesDoNothing, DoneRunsAnswer, DoneFilesAnswer, DoneStormsReport, DoneExplorationsAreRight, DoneVersionsAreWritten, OtherRunsWriteAPart, OtherFilesWriteAPart, OtherChecksWriteAPart, OtherVersionsWriteAPart}
 use Rattle.stm_console.specs.declared.checking.Finding.{Finding}
 use Rattle.stm_console.specs.declared.checking.Finding.TheVariants.{Legal, BadHeader, BadLine, NotLegal}

@@ -2,7 +2,6 @@
 
 ghost use Rattle.std.specs.Prelude.{◌≡◌, ◌≢◌, ◌++◌, ℕ, List, OnErr, OnOk, IfErr, IfOk, IfSome, decimal, string_bytes};
 ghost use Rattle.std.specs.Io.KnownBytes.{Appends, Keeps};
-ghost use Rattle.stm_terms.specs.Texts.{IsPrefixOf};
 ghost use Rattle.stm_console.specs.Checking.{IsFinding, BeginsFindingText, finding_text};
 ghost use Rattle.stm_console.specs.ExitStatus.{finding_status};
 

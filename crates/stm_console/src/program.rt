@@ -1,6 +1,6 @@
 //! The program over its words and streams, and its exit status.
 
-ghost use Rattle.std.specs.Prelude.{◌≡◌, ◌≢◌, ◌⊎◌, ℕ, List, [], IfErr, IfOk, IfSome, IsTrue, OnErr, OnOk, map};
+ghost use Rattle.std.specs.Prelude.{◌≡◌, ◌⊎◌, ℕ, List, IsTrue, OnErr, OnOk, map};
 ghost use Rattle.std.specs.Io.KnownBytes.{Appends, Keeps};
 ghost use Rattle.clap.specs.Values.{kind_of};
 ghost use Rattle.stm_terms.specs.Texts.{IsPrefixOf};
@@ -10,7 +10,7 @@ ghost use Rattle.stm_console.specs.declared.status.TheConstants.{DONE, FAILED, N
 ghost use Rattle.stm_explore_script.specs.ExploreStatus.{explore_status};
 ghost use Rattle.stm_lines.specs.RunStatus.{status_of};
 ghost use Rattle.stm_options.specs.Options.{AreRunOptions};
-ghost use Rattle.stm_command_line.specs.CommandLine.{is_mistake, version_line, AreExploreOptions, HasOptionsInRange};
+ghost use Rattle.stm_command_line.specs.CommandLine.{is_mistake, version_line, HasOptionsInRange};
 
 use crate::checking::check_with;
 use crate::files::JournalFiles;

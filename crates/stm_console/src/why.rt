@@ -2,8 +2,8 @@
 
 ghost use Rattle.std.specs.Prelude.{◌≡◌, ◌≢◌, ◌++◌, [], ℕ, List, IfErr, IfOk, IfSome, OnErr, OnOk, codes, decimal, string_bytes};
 ghost use Rattle.std.specs.Io.KnownBytes.{Appends, Keeps};
-ghost use Rattle.stm_console.specs.Checking.{IsFinding, finding_text};
-ghost use Rattle.stm_console.specs.Why.{BeginsAnswerWhy, IsAnswerWhy, IsWhyText, call_refusal_text, explanation_text};
+ghost use Rattle.stm_console.specs.Checking.{finding_text};
+ghost use Rattle.stm_console.specs.Why.{BeginsAnswerWhy, IsAnswerWhy, call_refusal_text, explanation_text};
 ghost use Rattle.stm_history.specs.Explanation.{ReportsWhy};
 ghost use Rattle.stm_history.specs.Judgement.{ReportsFault};
 

@@ -3,7 +3,6 @@ use Rattle.std.proofs.Common.{◌≡◌, ℕ, Bool, true, false, not, ◌&&◌, 
 use Rattle.std.specs.Prelude.{nat_eq, is_some, IsSomeAnd, option_map}
 use Rattle.std.specs.Option.{option_or}
 use Rattle.std.proofs.lemmas.Bool.Decides.{nat_tests}
-use Rattle.stm_terms.specs.declared.values.Value.{Value}
 use Rattle.stm_terms.specs.declared.verdicts.Verdict.{Verdict}
 use Rattle.stm_terms.specs.ReadSet.{reads_of}
 use Rattle.stm_store.specs.declared.cell.Cell.{Cell}
@@ -12,8 +11,7 @@ use Rattle.stm_events.specs.declared.event.Event.{Event}
 use Rattle.stm_events.specs.declared.event.What.TheVariants.{Installed}
 use Rattle.stm_events.specs.declared.kept_cause.KeptCause.{KeptCause}
 use Rattle.stm_events.specs.declared.staleness.StalenessRule.TheVariants.{Changed}
-use Rattle.stm_events.specs.Headline.{LastDelivery}
-use Rattle.stm_events.specs.SlowDesk.{Since, Waiter, Slow, MayInstall, under, verdict_on, looked_on, intersects, is_stale_since, is_new_since, current_since, is_current, find_waiter, with_delivery, after, state_from, LegalFrom}
+use Rattle.stm_events.specs.SlowDesk.{Since, Waiter, Slow, MayInstall, under, verdict_on, looked_on, intersects, is_stale_since, is_new_since, is_current, find_waiter, with_delivery, after, state_from, LegalFrom}
 use Rattle.stm_events.specs.Laws.{SubmittedAreWellTyped}
 use Rattle.stm_events.specs.States.{HadVerdict, IsPossible, IsTypedState}
 use Rattle.stm_events.proofs.Folds.{after-rule, state-rule, state-append}
@@ -26,8 +24,8 @@ use Rattle.stm_desk.specs.Reasons.{Cause, was_stale}
 use Rattle.stm_desk.specs.ReasonsTold.{cause_told}
 use Rattle.stm_desk.specs.Checkpointed.{kept_cause}
 use Rattle.stm_desk.specs.Causes.{last_listed}
-use Rattle.stm_desk.proofs.CausesTold.{FitFrom, fit_all, fit_rest, was_current, IsCaused, is_caused}
-use Rattle.stm_desk.proofs.Listed.{IsNotCurrent, IsWaiting, none_listed, or_none, last_listed-append, first_listed}
+use Rattle.stm_desk.proofs.CausesTold.{FitFrom, fit_all, fit_rest, was_current, is_caused}
+use Rattle.stm_desk.proofs.Listed.{IsWaiting, none_listed, or_none, last_listed-append, first_listed}
 use Rattle.stm_desk.proofs.Starts.{IsTypedHistory}
 
 some_of : (o : Option Waiter) (P : Waiter → Type 0) → IsSomeAnd o P → (w : Waiter) × (o ≡ Some w) × P w

@@ -1,6 +1,6 @@
 -- The finish that made a stale block stale is the last one whose list has its ticket.
 use Rattle.std.proofs.Common.{◌≡◌, ℕ, ◌<◌, ◌≤◌, Bool, true, false, not, ◌&&◌, ◌||◌, cond, List, [], ◌∷◌, ◌++◌, map, filter, Option, Some, None, refl, sym, ap, subst, ◌∙◌, arith, eqb-true}
-use Rattle.std.specs.Prelude.{nat_eq, is_some, IsSomeAnd, option_map}
+use Rattle.std.specs.Prelude.{nat_eq, IsSomeAnd, option_map}
 use Rattle.std.specs.List.{list_any}
 use Rattle.std.specs.Option.{option_or}
 use Rattle.std.proofs.lemmas.Bool.Decides.{nat_tests}
@@ -18,7 +18,7 @@ use Rattle.stm_events.specs.declared.kept_cause.KeptCause.{KeptCause}
 use Rattle.stm_events.specs.declared.staleness.StalenessRule.TheVariants.{Changed}
 use Rattle.stm_events.specs.Headline.{installs_to, is_installed}
 use Rattle.stm_events.specs.Laws.{AreRising}
-use Rattle.stm_events.specs.SlowDesk.{Since, Waiter, Slow, MayFinish, under, verdict_on, looked_on, waking, intersects, is_stale_since, is_current, current_since, becomes_stale, stale_after, find_waiter, without_waiter, with_delivery, woken_more, after_writes, after, Allows, state_from, LegalFrom}
+use Rattle.stm_events.specs.SlowDesk.{Since, Waiter, Slow, MayFinish, under, verdict_on, looked_on, waking, intersects, is_current, current_since, becomes_stale, stale_after, find_waiter, without_waiter, with_delivery, woken_more, after_writes, after, Allows, state_from, LegalFrom}
 use Rattle.stm_events.specs.States.{IsPossible}
 use Rattle.stm_events.proofs.Alike.{meets-append}
 use Rattle.stm_events.proofs.Folds.{after-rule}
@@ -26,10 +26,10 @@ use Rattle.stm_events.proofs.Fresh.{still_holds}
 use Rattle.stm_events.proofs.Possible.{possible_after}
 use Rattle.stm_events.proofs.Rising.{low, not_above, rising_without, waiter_without, waiter_delivered, waiter_marks, waiter_push}
 use Rattle.stm_desk.specs.declared.reason.Change.{Change}
-use Rattle.stm_desk.specs.Reasons.{changes_from, ticket_of, Cause, cause_or}
+use Rattle.stm_desk.specs.Reasons.{ticket_of, Cause, cause_or}
 use Rattle.stm_desk.specs.ReasonsTold.{changes_told, cause_told}
 use Rattle.stm_desk.specs.Checkpointed.{kept_cause}
-use Rattle.stm_desk.specs.Causes.{cause_in_list, cause_listed, last_listed}
+use Rattle.stm_desk.specs.Causes.{cause_listed, last_listed}
 use Rattle.stm_desk.proofs.CausesTold.{FitsHere, FitFrom, told_here, not_woken, none_met, found_by}
 use Rattle.stm_desk.proofs.ReadValues.{AreRead, reads_are, found_read, unchanged}
 

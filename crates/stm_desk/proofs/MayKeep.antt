@@ -1,5 +1,5 @@
 -- What a finish leaves of the reads of a block may be kept as its cause from then on.
-use Rattle.std.proofs.Common.{◌≡◌, ◌≢◌, ℕ, ◌+◌, ◌<◌, ◌≤◌, Bool, true, false, List, [], ◌∷◌, Option, Some, None, refl, sym, ap, subst, ◌∙◌, arith}
+use Rattle.std.proofs.Common.{◌≡◌, ◌≢◌, ℕ, ◌<◌, ◌≤◌, Bool, true, false, List, [], ◌∷◌, Option, Some, None, refl, subst, ◌∙◌, arith}
 use Rattle.std.specs.Prelude.{nat_lt, IsSomeAnd}
 use Rattle.std.proofs.lemmas.Bool.Decides.{nat_tests}
 use Rattle.stm_terms.specs.declared.kinds.Ty.{Ty}
@@ -7,9 +7,7 @@ use Rattle.stm_terms.specs.declared.values.Value.{Value}
 use Rattle.stm_terms.specs.declared.values.Value.TheVariants as value
 use Rattle.stm_terms.specs.declared.verdicts.Verdict.{Verdict}
 use Rattle.stm_terms.specs.declared.verdicts.Verdict.TheVariants.{Commits}
-use Rattle.stm_terms.specs.Changes.{Variables}
 use Rattle.stm_terms.specs.Typing.{Rising}
-use Rattle.stm_store.specs.declared.cell.Cell.{Cell}
 use Rattle.stm_store.specs.Cells.{plains, kinds_of, Fits, StoreIsTyped}
 use Rattle.stm_store.proofs.ApplyPreservesTyping.{applied_typed}
 use Rattle.stm_store.proofs.FreshNumbersInRange.{rising}
@@ -29,9 +27,9 @@ use Rattle.stm_machine.specs.Checkpoints.{store_with, all_differ, IsKeptCause}
 use Rattle.stm_machine.proofs.StoreWith.{has_values, same_kinds, values_fit}
 use Rattle.stm_desk.specs.declared.reason.Change.{Change}
 use Rattle.stm_desk.specs.Reasons.{changes_from, ticket_of, Cause, cause_or}
-use Rattle.stm_desk.specs.ReasonsTold.{left_by_verdict, changes_told, cause_told}
+use Rattle.stm_desk.specs.ReasonsTold.{changes_told, cause_told}
 use Rattle.stm_desk.specs.Checkpointed.{kept_cause}
-use Rattle.stm_desk.proofs.CausesTold.{FitsHere, FitFrom, told_here}
+use Rattle.stm_desk.proofs.CausesTold.{FitFrom, told_here}
 use Rattle.stm_desk.proofs.KeptAgain.{lefts, lefts_rise, lefts_agree, lefts_differ}
 use Rattle.stm_desk.proofs.ReadValues.{AreRead}
 

@@ -15,17 +15,15 @@ use Rattle.stm_events.specs.declared.event.What.TheVariants.{Submitted, Installe
 use Rattle.stm_events.specs.declared.kept_cause.KeptCause.{KeptCause}
 use Rattle.stm_events.specs.Labels.{Labels}
 use Rattle.stm_events.specs.SlowDesk.{Since, Waiter, Slow, under, verdict_on, is_stale_since, is_new_since, current_since, find_waiter}
-use Rattle.stm_events.specs.States.{HadVerdict}
 use Rattle.stm_events.proofs.Possible.{possible_from, had_waiter, some_verdict}
 use Rattle.stm_events.proofs.SinceFrom.{tracked_from}
-use Rattle.stm_machine.specs.declared.checkpoint.CheckpointBlock.{CheckpointBlock}
-use Rattle.stm_machine.specs.Checkpoints.{CheckpointView, store_with, since_held, waiter_of, checkpoint_state, IsRightDelivery, AreCheckpointBlocks, IsCheckpoint, MayStart, held_since, block_of_waiter, checkpoint_of, labelled_block, with_labels, caused_block, with_causes}
+use Rattle.stm_machine.specs.Checkpoints.{store_with, since_held, waiter_of, checkpoint_state, IsRightDelivery, AreCheckpointBlocks, IsCheckpoint, MayStart, held_since, block_of_waiter, checkpoint_of, labelled_block, with_labels, caused_block}
 use Rattle.stm_machine.proofs.CheckpointLabels.{same_state, caused_state}
 use Rattle.stm_machine.proofs.CheckpointStates.{is_stale_held}
 use Rattle.stm_waiting.specs.declared.waiting.Held.{Held}
 use Rattle.stm_desk.specs.declared.reason.Change.{Change}
 use Rattle.stm_desk.specs.DeskView.{DeskView, start_state, state_of, labels_of}
-use Rattle.stm_desk.specs.Reasons.{changes_from, ticket_of, Cause, cause_or, cause_again, kept_cause_in, kept_cause_at, WaitReason, IsStale, current_reason, was_stale, reason_kept, reason_before, stale_reason, reason_since, reason_of_waiter, reason_of}
+use Rattle.stm_desk.specs.Reasons.{changes_from, ticket_of, Cause, cause_or, cause_again, kept_cause_in, kept_cause_at, WaitReason, IsStale, current_reason, was_stale, reason_kept, stale_reason, reason_since, reason_of_waiter, reason_of}
 use Rattle.stm_desk.specs.ReasonsTold.{left_by_verdict, changes_told, cause_told, events_since, stale_at, stale_told}
 use Rattle.stm_desk.specs.Checkpointed.{kept_cause, cause_kept, causes_of, checkpoint_now, checkpointed, ReasonsStay}
 use Rattle.stm_desk.proofs.KeptAgain.{lefts, changes_again}

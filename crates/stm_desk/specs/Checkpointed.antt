@@ -1,8 +1,7 @@
 -- The checkpoint of a desk, and the desk after it.
-use Rattle.std.specs.Prelude.{◌≡◌, ℕ, List, [], ◌∷◌, map, Option, Some, None}
+use Rattle.std.specs.Prelude.{◌≡◌, ℕ, [], map, Option, Some, None}
 use Rattle.stm_events.specs.declared.kept_cause.KeptCause.{KeptCause}
 use Rattle.stm_machine.specs.Checkpoints.{CheckpointView, checkpoint_of, with_causes, with_labels}
-use Rattle.stm_desk.specs.declared.reason.Change.{Change}
 use Rattle.stm_desk.specs.DeskView.{DeskView, state_of, labels_of}
 use Rattle.stm_desk.specs.Reasons.{Cause, WaitReason, NotEvaluated, IsStale, WasStale, Waits, CanFinish, reason_of}
 

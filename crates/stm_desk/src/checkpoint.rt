@@ -1,6 +1,6 @@
 //! A history that begins from where the desk is.
 
-ghost use Rattle.std.specs.Prelude.{◌≡◌, ℕ, ◌<◌, ◌≤◌, ◌↔◌, length, Some, option_map, IfOk, OnOk, OnErr, IsErrOf};
+ghost use Rattle.std.specs.Prelude.{◌≡◌, ℕ, ◌<◌, ◌≤◌, length, Some, option_map, IfOk, OnOk, OnErr, IsErrOf};
 ghost use Rattle.stm_events.specs.Labels.{label_of};
 ghost use Rattle.stm_events.specs.States.{observed};
 ghost use Rattle.stm_machine.specs.Checkpoints.{MayStart, checkpoint_of, with_labels, max_next};

@@ -5,7 +5,7 @@ ghost use Rattle.stm_lines.specs.Lines.{drop_return, whole_lines_of, NoLineFeed}
 ghost use Rattle.stm_run.specs.Console.{answer_to, answers_to, initial_console, state_after};
 ghost use Rattle.stm_run.specs.AfterLines.{state_after_lines};
 ghost use Rattle.stm_embed.specs.Exploring.{IsExplored};
-ghost use Rattle.stm_embed.specs.Feeding.{HasFed, console_of, unread_answers};
+ghost use Rattle.stm_embed.specs.Feeding.{console_of, unread_answers};
 ghost use Rattle.stm_embed.specs.Status.{all_taken, part_of_line, no_memory};
 
 use crate::exploring::{Ended, explore_script};

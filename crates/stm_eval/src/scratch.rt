@@ -4,7 +4,7 @@ ghost use Rattle.std.specs.Prelude.{◌≡◌, ◌≢◌, ◌≤◌, ◌^◌, []
 ghost use Rattle.stm_terms.specs.Ast.{act_of};
 ghost use Rattle.stm_terms.specs.Changes.{cell_value, no_changes};
 ghost use Rattle.stm_terms.specs.Semantics.{run, Stuck};
-ghost use Rattle.stm_terms.specs.ReadSet.{reads_of, looks, insert_reads};
+ghost use Rattle.stm_terms.specs.ReadSet.{reads_of};
 ghost use Rattle.stm_terms.specs.Typing.{Rising, makes};
 ghost use Rattle.stm_terms.specs.Verdict.{verdict, verdict_from};
 ghost use Rattle.stm_eval.specs.InterpreterSteps.{outcome};

@@ -1,8 +1,8 @@
 //! The fields of a JSON value: numbers, texts, types and values.
 
-ghost use Rattle.std.specs.Prelude.{◌≡◌, ◌<◌, ◌^◌, ◌≤◌, Some, None, IfOk, IfSome, option_map, option_and_then};
+ghost use Rattle.std.specs.Prelude.{◌≡◌, ◌<◌, ◌≤◌, Some, None, IfOk, IfSome, option_map, option_and_then};
 ghost use Rattle.serde_json.specs.View.{view, items_view};
-ghost use Rattle.serde_json.specs.Find.{get, at, as_array};
+ghost use Rattle.serde_json.specs.Find.{get, as_array};
 ghost use Rattle.stm_event_lines.specs.Fields.{u32_of, text_field, number_field, type_in as type_meant, reference_of, value_of};
 ghost use Rattle.stm_terms.specs.Limits.{most_refs};
 ghost use Rattle.stm_event_lines.specs.Fits.{Is32Bit, FitsValue};

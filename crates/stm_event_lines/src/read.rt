@@ -1,12 +1,12 @@
 //! Lines read back.
 
-ghost use Rattle.std.specs.Prelude.{◌≡◌, ◌≢◌, ◌<◌, ◌^◌, ◌≤◌, ℕ, List, IfOk, IfSome, IsErrOf, IsUtf8, Some, None, codes, option_map, option_and_then, string_bytes};
+ghost use Rattle.std.specs.Prelude.{◌≡◌, ◌≢◌, ◌<◌, ◌≤◌, ℕ, List, IfOk, IfSome, IsErrOf, IsUtf8, Some, None, codes, option_map, option_and_then};
 ghost use Rattle.serde_json.specs.Read.{read as read_text};
 ghost use Rattle.serde_json.specs.View.{view};
 ghost use Rattle.stm_events.specs.declared.event.Event.{Event as AnyEvent};
 ghost use Rattle.stm_store.specs.Tables.{Declared};
 ghost use Rattle.stm_store.specs.Naming.{Named};
-ghost use Rattle.stm_event_lines.specs.Fields.{event_of as event_meant, header_of as header_meant, what_of as what_meant, if_label as if_label_meant, labelled_of, what_in as what_in_meant, if_named as if_named_meant, declared_event_of, client_field, submitted_of, installed_of, finished_of, number_field, declared_from_json as variable_meant, type_in as type_meant, text_field};
+ghost use Rattle.stm_event_lines.specs.Fields.{event_of as event_meant, header_of as header_meant, what_of as what_meant, if_label as if_label_meant, labelled_of, what_in as what_in_meant, if_named as if_named_meant, declared_event_of, client_field, submitted_of, installed_of, finished_of, declared_from_json as variable_meant, type_in as type_meant, text_field};
 ghost use Rattle.stm_terms.specs.Limits.{most_refs, max_clients};
 ghost use Rattle.stm_event_lines.specs.Fits.{Is32Bit, FitsNames, WhatFitsNames, FitsValue, FitsVariable};
 ghost use Rattle.stm_event_lines.specs.Lines.{IsFormat, event_line, header_line, variable_line};

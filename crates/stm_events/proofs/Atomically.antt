@@ -1,5 +1,5 @@
 -- What `atomically` does, event by event: each is allowed, and what it leaves.
-use Rattle.std.proofs.Common.{◌≡◌, ℕ, ◌+◌, ◌<◌, ◌≤◌, Bool, true, false, not, cond, List, [], ◌∷◌, ◌++◌, map, length, Option, Some, None, refl, sym, ap, ap₂, subst, ◌∙◌, arith}
+use Rattle.std.proofs.Common.{◌≡◌, ℕ, ◌+◌, ◌<◌, ◌≤◌, true, false, not, List, [], ◌∷◌, ◌++◌, map, length, Option, Some, None, refl, sym, ap, subst, ◌∙◌, arith}
 use Rattle.std.specs.Prelude.{nat_eq, IsSomeAnd}
 use Rattle.std.proofs.lemmas.Bool.Decides.{nat_tests}
 use Rattle.stm_terms.specs.declared.verdicts.Verdict.{Verdict}
@@ -8,14 +8,13 @@ use Rattle.stm_store.specs.Cells.{plains, Covers, applied, made_by}
 use Rattle.stm_check.specs.TypedBlock.{Block}
 use Rattle.stm_events.specs.declared.event.What.{What}
 use Rattle.stm_events.specs.declared.event.What.TheVariants.{Submitted, Installed, Finished}
-use Rattle.stm_events.specs.SlowAtomically.{finish_at_once, install_at_once, atomically, AllowsEach}
-use Rattle.stm_events.specs.SlowDesk.{Waiter, Slow, verdict_on, looked_on, waking, is_blocks, intersects, is_current, find_waiter, without_waiter, with_delivery, delivered, after_writes, stale_after, after, Allows, MayInstall, MayFinish, max_cells}
+use Rattle.stm_events.specs.SlowAtomically.{atomically, AllowsEach}
+use Rattle.stm_events.specs.SlowDesk.{Waiter, Slow, verdict_on, looked_on, waking, is_blocks, intersects, find_waiter, without_waiter, with_delivery, delivered, after_writes, stale_after, after, Allows, MayInstall, MayFinish, max_cells}
 use Rattle.stm_terms.specs.Limits.{max_waiting}
 use Rattle.stm_events.specs.SlowDrain.{after_all}
 use Rattle.stm_events.specs.Laws.{AreRising}
 use Rattle.stm_events.specs.States.{IsPossible}
 use Rattle.stm_events.proofs.Possible.{possible_after}
-use Rattle.stm_events.proofs.Rising.{waiter_push}
 
 -- ---- the waiting blocks, and one more under the next ticket
 itself : (t : ℕ) → nat_eq t t ≡ true

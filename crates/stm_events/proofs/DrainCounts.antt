@@ -1,15 +1,15 @@
 -- How many blocks draining runs.
-use Rattle.std.proofs.Common.{◌≡◌, ℕ, zero, suc, ◌+◌, ◌<◌, Bool, true, false, not, ◌||◌, ◌&&◌, cond, List, [], ◌∷◌, map, filter, length, Option, Some, None, refl, sym, ap, subst, ◌∙◌, arith}
+use Rattle.std.proofs.Common.{◌≡◌, ℕ, zero, suc, ◌+◌, Bool, true, false, not, ◌||◌, ◌&&◌, cond, List, [], ◌∷◌, map, filter, length, Option, Some, None, refl, sym, ap, subst, ◌∙◌, arith}
 use Rattle.std.specs.Prelude.{nat_eq, is_some}
 use Rattle.stm_terms.specs.declared.verdicts.Verdict.{Verdict}
 use Rattle.stm_events.specs.declared.event.What.{What}
 use Rattle.stm_events.specs.declared.event.What.TheVariants.{Installed, Finished}
-use Rattle.stm_events.specs.SlowDesk.{Waiter, Slow, verdict_on, waking, is_current, becomes_stale, find_waiter, without_waiter, delivered, after_writes, stale_after, after, Allows}
-use Rattle.stm_events.specs.SlowSettle.{lowest, is_due, ends, can_end, has_cells, Stop, NoRoom, NoCells, installs}
+use Rattle.stm_events.specs.SlowDesk.{Waiter, Slow, verdict_on, waking, is_current, becomes_stale, find_waiter, without_waiter, after_writes, stale_after, after, Allows}
+use Rattle.stm_events.specs.SlowSettle.{lowest, is_due, can_end, has_cells, NoRoom, NoCells, installs}
 use Rattle.stm_events.specs.SlowDrain.{is_next, next_drain, draining, drain_stop}
-use Rattle.stm_events.specs.DrainCounts.{due_count, stales, DrainingRunsWhatIsDue}
+use Rattle.stm_events.specs.DrainCounts.{stales, DrainingRunsWhatIsDue}
 use Rattle.stm_events.specs.States.{IsPossible, IsTypedState}
-use Rattle.stm_events.proofs.DrainLists.{one_if, dues, dues_installed, all_current, no_dues, was_current, next_none, next_due, next_end}
+use Rattle.stm_events.proofs.DrainLists.{one_if, dues, dues_installed, all_current, no_dues, was_current, next_none, next_due}
 use Rattle.stm_events.proofs.Draining.{drain_allowed, drain_installs, drain_finishes, drain_rests, verdict_by}
 use Rattle.stm_events.proofs.Possible.{possible_after}
 use Rattle.stm_events.proofs.Running.{running_more, running_ends, stopping_more, stopping_full, stopping_crowded}

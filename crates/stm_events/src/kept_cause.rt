@@ -1,6 +1,6 @@
 //! Why blocks are stale, as a checkpoint keeps it.
 
-ghost use Rattle.std.specs.Prelude.{◌≡◌, [], Some, IfOk, OnOk, OnErr, option_map, if◌then◌else◌, nat_eq, ℕ};
+ghost use Rattle.std.specs.Prelude.{◌≡◌, [], Some, IfOk, OnOk, OnErr, if◌then◌else◌, nat_eq, ℕ};
 ghost use Rattle.std.specs.Option.{option_copied};
 ghost use Rattle.stm_events.specs.KeptCauses.{kept_cause_of};
 

@@ -1,6 +1,6 @@
 //! The labels of waiting blocks, as they are kept.
 
-ghost use Rattle.std.specs.Prelude.{◌≡◌, [], IfOk, OnOk, OnErr, option_map, unwrap_or};
+ghost use Rattle.std.specs.Prelude.{◌≡◌, [], IfOk, OnOk, OnErr, unwrap_or};
 ghost use Rattle.std.specs.Option.{option_copied};
 ghost use Rattle.stm_events.specs.Labels.{AreSameLabels, label_of, without_label, labelled};
 

@@ -1,11 +1,10 @@
 //! The lines of a history that begins from a checkpoint, before its events.
 
-ghost use Rattle.std.specs.Prelude.{◌≡◌, ◌⊎◌, ◌↔◌, ◌≤◌, ◌<◌, ◌++◌, ◌∷◌, [], true, ℕ, List, IfOk, IfErr, OnOk, IsTrue, Some, length, option_map, string_bytes};
+ghost use Rattle.std.specs.Prelude.{◌≡◌, ◌⊎◌, ◌↔◌, ◌≤◌, ◌<◌, ◌++◌, ◌∷◌, [], true, ℕ, IfOk, IfErr, OnOk, IsTrue, Some, length, option_map, string_bytes};
 ghost use Rattle.stm_store.specs.Cells.{plains, Covers, IsStore};
 ghost use Rattle.stm_store.specs.Naming.{named_uses, NumbersAreBelow};
-ghost use Rattle.stm_terms.specs.Names.{is_name_text};
 ghost use Rattle.stm_machine.specs.Checkpoints.{MayAdd, checkpoint_block};
-ghost use Rattle.stm_event_lines.specs.CheckpointLines.{FitsCell, FitsWaiting, IsCheckpointFormat, cell_line, checkpoint_format, waiting_line};
+ghost use Rattle.stm_event_lines.specs.CheckpointLines.{FitsCell, FitsWaiting, cell_line, checkpoint_format, waiting_line};
 ghost use Rattle.stm_history_text.specs.Starts.{is_plain_block};
 ghost use Rattle.stm_history.specs.Checking.{CheckerState, at_header, at_cells, at_blocks, IsCheckpointHead, LeadsToCells, MayBeNamed, MayRefuse, with_name_of};
 ghost use Rattle.stm_history.specs.Checking.{with_blocks as progress_with_blocks, with_cells as progress_with_cells};

@@ -1,6 +1,6 @@
 //! The labels of the waiting blocks after a history.
 
-ghost use Rattle.std.specs.Prelude.{◌≡◌, ℕ, List, IfOk, OnOk, option_map};
+ghost use Rattle.std.specs.Prelude.{ℕ, List, IfOk, OnOk, option_map};
 ghost use Rattle.stm_store.specs.declared.cell.Cell.{Cell as AnyCell};
 ghost use Rattle.stm_events.specs.Labels.{AreSameLabels, labels_after, labels_from};
 ghost use Rattle.stm_machine.specs.Checkpoints.{AreCheckpointBlocks, first_labels, labels_in};

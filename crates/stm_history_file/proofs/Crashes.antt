@@ -8,7 +8,7 @@ use Rattle.stm_history_text.specs.Starts.{Start}
 use Rattle.stm_journal.specs.declared.sync_mode.SyncMode.{SyncMode}
 use Rattle.stm_journal.specs.declared.sync_mode.SyncMode.TheVariants.{Full, Append, Never}
 use Rattle.stm_journal.specs.Disk.{Disk, LeavesOnly}
-use Rattle.stm_journal.specs.Journal.{AtRest, MayLeave, HasAllOrNone, HasFront, KeepsText, most_batch}
+use Rattle.stm_journal.specs.Journal.{AtRest, MayLeave, HasAllOrNone, most_batch}
 use Rattle.stm_journal.specs.Journal as journal
 use Rattle.stm_journal.specs.Text.{recovered, dropped_count, IsWhole}
 use Rattle.stm_journal.proofs.Moments.{started, weaker}

@@ -1,6 +1,6 @@
 //! A new file whose lines are measured as they are written.
 
-ghost use Rattle.std.specs.Prelude.{◌≡◌, ℕ, List, Some, IsTrue, length};
+ghost use Rattle.std.specs.Prelude.{◌≡◌, ℕ, List, Some};
 ghost use Rattle.stm_journal.specs.NewFile.{written_bytes};
 ghost use Rattle.stm_history_file.specs.LineLengths.{last_line_after};
 

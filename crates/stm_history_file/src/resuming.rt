@@ -1,6 +1,6 @@
 //! A file of a history, opened again.
 
-ghost use Rattle.std.specs.Prelude.{◌≡◌, ◌⊎◌, ◌≤◌, ◌<◌, ◌+◌, ◌^◌, None, Some, IsTrue, IfOk, IfErr, IfSome, MatchResult, length, take, drop};
+ghost use Rattle.std.specs.Prelude.{◌≡◌, ◌<◌, ◌+◌, ◌^◌, None, Some, IsTrue, IfOk, IfErr, IfSome, MatchResult, length, take, drop};
 ghost use Rattle.stm_event_lines.specs.Lines.{latest_format};
 ghost use Rattle.stm_events.specs.Laws.{SubmittedAreWellTyped};
 ghost use Rattle.stm_events.specs.SlowDesk.{state_from};

@@ -1,5 +1,5 @@
 -- What a run has written and left when it ends.
-use Rattle.std.proofs.Common.{◌≡◌, inl, inr, ℕ, ◌≤◌, length, ◌∷◌, Result, Ok, Err, IfErr, OnOk, OnErr, List, [], ◌++◌, Bool, true, false, cond, IsTrue, Option, Some, None, IfSome, refl, sym, ap, ◌∙◌, subst, arith, append_assoc, append-nil, length-append}
+use Rattle.std.proofs.Common.{◌≡◌, inl, inr, ℕ, ◌∷◌, Result, Ok, Err, IfErr, OnOk, OnErr, List, [], ◌++◌, Bool, true, false, IsTrue, Option, Some, None, IfSome, refl, sym, ap, ◌∙◌, subst, arith, append_assoc, append-nil}
 use Rattle.std.specs.Io.KnownBytes.{Appends}
 use Rattle.std.proofs.KnownBytes.{Appends-nil}
 use Rattle.stm_terms.specs.Texts.{IsPrefixOf}

@@ -1,6 +1,6 @@
 //! The events of a console that its file doesn't have yet, recorded in batches.
 
-ghost use Rattle.std.specs.Prelude.{◌≡◌, ◌⊎◌, ◌++◌, ◌<◌, ◌≤◌, [], true, false, List, IsTrue, MatchBool, length, take, drop, OnOk, IfOk, IsErrOf};
+ghost use Rattle.std.specs.Prelude.{◌≡◌, ◌⊎◌, ◌<◌, ◌≤◌, [], true, false, IsTrue, MatchBool, length, take, drop, OnOk, IfOk, IsErrOf};
 ghost use Rattle.stm_event_lines.specs.Lines.{declaring_format};
 ghost use Rattle.stm_events.specs.SlowDesk.{Slow};
 ghost use Rattle.stm_history_text.specs.HistoryText.{history_text};

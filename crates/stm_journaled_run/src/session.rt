@@ -23,7 +23,6 @@ ghost use Rattle.stm_run.specs.Growing.{Grows};
 ghost use Rattle.stm_run.specs.LineCheckpoints.{asks_checkpoint, reply_checkpoints, line_checkpoints, is_streamed, Turn, turn_of, made_turn, refused_step, made_step};
 ghost use Rattle.stm_journaled_run.specs.DurableRun.{RunsUnlessDisk, RefusalCause, KeepsConsole, CoversAnswers};
 ghost use Rattle.stm_journaled_run.specs.Committing.{MayCommit, MayBeginAnew, IsAfterLines, streamed_text, HasNotWritten, CommitLeaves, BeginningLeaves, BeginningLeavesEither, asked_step, no_checkpoint_text, HasTriedCheckpoint, HasTakenLine, has_begun, HasNotTaken, TakingLeaves, FailsAfter};
-ghost use Rattle.stm_journaled_run.specs.NewEvents.{MayBeginRun};
 
 use crate::beginning::begin_file_anew;
 use crate::fault::DurableFault;

@@ -6,7 +6,7 @@ use Rattle.stm_terms.specs.declared.verdicts.Verdict.{Verdict}
 use Rattle.stm_terms.specs.ReadSet.{reads_of}
 use Rattle.stm_store.specs.declared.cell.Cell.{Cell}
 use Rattle.stm_check.specs.TypedBlock.{Block}
-use Rattle.stm_events.specs.SlowDesk.{Since, Waiter, under, verdict_on, is_current, is_stale_since, current_since, find_waiter, Standing, standing_since, standing}
+use Rattle.stm_events.specs.SlowDesk.{Since, Waiter, under, verdict_on, is_current, is_stale_since, current_since, standing_since, standing}
 use Rattle.stm_events.specs.SlowDesk as slow
 use Rattle.stm_events.specs.SlowSettle.{lowest}
 use Rattle.stm_waiting.specs.declared.waiting.Waiting.{Waiting}

@@ -1,6 +1,6 @@
 -- Running a block atomically: what it leaves is what the slow desk has after its events.
-use Rattle.std.proofs.Common.{◌≡◌, ℕ, ◌+◌, ◌<◌, ◌≤◌, ◌^◌, Bool, true, false, not, ◌&&◌, ◌||◌, cond, List, [], ◌∷◌, ◌++◌, map, length, Option, Some, None, refl, sym, ap, subst, ◌∙◌, arith}
-use Rattle.std.specs.Prelude.{nat_le, nat_eq, option_map, Result, Ok, Err, IfOk, OnOk, IsSomeAnd}
+use Rattle.std.proofs.Common.{◌≡◌, ℕ, ◌+◌, ◌<◌, ◌≤◌, Bool, true, false, not, ◌&&◌, ◌||◌, List, [], ◌∷◌, ◌++◌, map, length, Option, Some, None, refl, sym, ap, subst, ◌∙◌, arith}
+use Rattle.std.specs.Prelude.{nat_le, nat_eq, Result, Ok, Err, IfOk, OnOk, IsSomeAnd}
 use Rattle.std.specs.List.{list_any}
 use Rattle.std.proofs.lemmas.Bool.Decides.{nat_tests}
 use Rattle.stm_terms.specs.declared.kinds.Ty.{Ty}
@@ -16,7 +16,7 @@ use Rattle.stm_check.specs.TypedBlock.{Block}
 use Rattle.stm_check.proofs.Weakening.{verdict_fits}
 use Rattle.stm_eval.specs.Messages.{Holds}
 use Rattle.stm_watch.specs.Pairs.{Pairs, has_pair, is_read, watches, WithReads}
-use Rattle.stm_queue.specs.Queue.{Entry, has_ticket, with_ticket, without_ticket}
+use Rattle.stm_queue.specs.Queue.{Entry, has_ticket, with_ticket}
 use Rattle.stm_queue.specs.SortedTickets.{IsRising, member}
 use Rattle.stm_queue.proofs.Merging.{removed_with, has_with, itself}
 use Rattle.stm_events.specs.declared.event.What.{What}
@@ -31,7 +31,7 @@ use Rattle.stm_events.proofs.Atomically.{MayRun, absent_without, last_found, end
 use Rattle.stm_events.proofs.Rising.{waiter_marks}
 use Rattle.stm_waiting.specs.declared.waiting.Held.{Held}
 use Rattle.stm_waiting.specs.declared.waiting.Waiting.{Waiting}
-use Rattle.stm_waiting.specs.Entries.{kept_at, kept, lose, with_held, AllBelow}
+use Rattle.stm_waiting.specs.Entries.{kept_at, lose, with_held, AllBelow}
 use Rattle.stm_machine.specs.declared.finish.Plan.{Plan}
 use Rattle.stm_machine.specs.Atomic.{IsVerdictOf, IsRunPlan, PlansRun}
 use Rattle.stm_machine.specs.Entries.{kept_reads, kept_ends}

@@ -1,8 +1,8 @@
 //! Checkpoints: states that a history may begin from.
 
-ghost use Rattle.std.specs.Prelude.{◌≡◌, ◌≢◌, ℕ, ◌<◌, ◌≤◌, ◌++◌, ◌∷◌, [], false, true, map, option_map, IfOk, OnOk, OnErr, IsErrOf, IsTrue, ◌↔◌};
+ghost use Rattle.std.specs.Prelude.{◌≡◌, ◌<◌, ◌≤◌, ◌++◌, ◌∷◌, [], false, true, map, option_map, IfOk, OnOk, OnErr, IsErrOf, IsTrue, ◌↔◌};
 ghost use Rattle.stm_terms.specs.Changes.{find};
-ghost use Rattle.stm_store.specs.Cells.{plains, Covers, StoreIsTyped};
+ghost use Rattle.stm_store.specs.Cells.{plains, Covers};
 ghost use Rattle.stm_store.specs.Naming.{named_uses};
 ghost use Rattle.stm_events.specs.KeptCauses.{kept_cause_of};
 ghost use Rattle.stm_events.specs.Labels.{AreLabels};

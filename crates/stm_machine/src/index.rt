@@ -1,6 +1,6 @@
 //! The index and the queue when a block finishes.
 
-ghost use Rattle.std.specs.Prelude.{◌≡◌, ℕ, ◌≤◌, true, false, not, ◌&&◌, nat_eq, length, IfOk, OnOk, OnErr, map, ◌++◌};
+ghost use Rattle.std.specs.Prelude.{◌≡◌, ℕ, ◌≤◌, true, false, not, ◌&&◌, nat_eq, length, IfOk, OnOk, map, ◌++◌};
 ghost use Rattle.std.specs.List.{list_any};
 ghost use Rattle.stm_watch.specs.Pairs.{has_pair, is_read, watches, WithoutReads};
 ghost use Rattle.stm_queue.specs.Queue.{has_ticket};

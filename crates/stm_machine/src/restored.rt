@@ -1,6 +1,6 @@
 //! The blocks of a checkpoint as a machine keeps them, and those that a machine keeps as a checkpoint has them.
 
-ghost use Rattle.std.specs.Prelude.{◌≡◌, ℕ, not, false, map, IfOk, OnOk, OnErr, ◌++◌, ◌∷◌, []};
+ghost use Rattle.std.specs.Prelude.{◌≡◌, ℕ, false, map, IfOk, OnOk, ◌++◌, ◌∷◌, []};
 ghost use Rattle.stm_queue.specs.Queue.{has_ticket};
 ghost use Rattle.stm_queue.specs.SortedTickets.{member};
 ghost use Rattle.stm_watch.specs.Pairs.{has_pair};

@@ -1,6 +1,6 @@
 //! Whether the last delivery to a block of a checkpoint is right.
 
-ghost use Rattle.std.specs.Prelude.{◌≡◌, ◌≢◌, ◌↔◌, [], None, Some, option_map, IsTrue, IfOk, OnOk, IsErrOf};
+ghost use Rattle.std.specs.Prelude.{◌≡◌, ◌↔◌, [], None, Some, option_map, IsTrue, IfOk, OnOk, IsErrOf};
 ghost use Rattle.stm_terms.specs.Changes.{cell_value};
 ghost use Rattle.stm_terms.specs.declared.values.Value.TheVariants as value;
 ghost use Rattle.stm_terms.specs.declared.verdicts.Verdict.TheVariants.{Commits};

@@ -1,5 +1,5 @@
 -- What a storm's counts are made from.
-use Rattle.std.specs.Prelude.{◌≡◌, ℕ, ◌<◌, List, length, slice_index_or, IfSome}
+use Rattle.std.specs.Prelude.{ℕ, ◌<◌, List, length, slice_index_or, IfSome}
 use Rattle.stm_pool.specs.declared.storm.Counts.{Counts}
 use Rattle.stm_pool.specs.Own.{Known}
 use Rattle.stm_pool.specs.Closing.{pass_of}

@@ -1,6 +1,6 @@
 //! A block evaluated on the opening store, with both branches of an `orElse` at once.
 
-ghost use Rattle.std.specs.Prelude.{◌≡◌, ◌≤◌};
+ghost use Rattle.std.specs.Prelude.{◌≤◌};
 ghost use Rattle.stm_terms.specs.Limits.{max_levels};
 ghost use Rattle.stm_store.specs.Cells.{Covers};
 

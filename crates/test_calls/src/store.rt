@@ -1,6 +1,6 @@
 //! A store on the declared variables, with a copy that is held, so that a change copies the pages that it writes.
 
-ghost use Rattle.std.specs.Prelude.{◌≡◌, ◌<◌};
+ghost use Rattle.std.specs.Prelude.{◌<◌};
 ghost use Rattle.stm_store.specs.Cells.{Fits, plains};
 
 use crate::words::{first_word, number, say};

@@ -1,6 +1,6 @@
 //! Declares variables.
 
-ghost use Rattle.std.specs.Prelude.{◌≡◌, IsTrue};
+ghost use Rattle.std.specs.Prelude.{IsTrue};
 ghost use Rattle.stm_terms.specs.Names.{is_name_text};
 
 use crate::words::{first_word, number, say};

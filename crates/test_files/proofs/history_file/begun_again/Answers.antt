@@ -1,6 +1,4 @@
-use Rattle.std.proofs.Common.{[], List, Option, Some, ℕ, refl, sym, subst}
-use Rattle.stm_events.specs.declared.event.Event.{Event}
-use Rattle.stm_events.specs.SlowDesk.{Slow}
+use Rattle.std.proofs.Common.{[], Option, refl, subst}
 use Rattle.stm_machine.specs.Checkpoints.{CheckpointView}
 use Rattle.stm_history.specs.Loading.{loaded_start}
 use Rattle.stm_history_text.specs.Starts.{first_state}

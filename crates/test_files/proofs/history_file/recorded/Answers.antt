@@ -1,5 +1,4 @@
 use Rattle.std.proofs.Common.{[], Option, refl, sym, subst}
-use Rattle.stm_events.specs.declared.event.Event.{Event}
 use Rattle.stm_machine.specs.Checkpoints.{CheckpointView}
 use Rattle.stm_history.specs.Loading.{loaded_start}
 use Rattle.stm_history_text.specs.Starts.{first_state}

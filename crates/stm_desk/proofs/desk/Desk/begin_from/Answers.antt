@@ -5,7 +5,7 @@ use Rattle.stm_events.specs.SlowDesk.{state_from}
 use Rattle.stm_events.specs.States.{observed}
 use Rattle.stm_machine.specs.Checkpoints.{CheckpointView, IsCheckpoint, checkpoint_of, checkpoint_state, first_labels, with_labels, with_causes, start_of}
 use Rattle.stm_desk.specs.DeskView.{DeskView, state_of, labels_of}
-use Rattle.stm_desk.specs.Checkpointed.{causes_of, checkpoint_now, checkpointed}
+use Rattle.stm_desk.specs.Checkpointed.{causes_of, checkpoint_now}
 use Rattle.stm_desk.specs.Reasons.{reason_of}
 use Rattle.stm_desk.specs.Kept.{DeskInvariant, HasLabels}
 use Rattle.stm_desk.proofs.Checkpointed.{unseen, checkpoint_kept}

@@ -1,4 +1,4 @@
-use Rattle.std.proofs.Common.{◌≡◌, ◌∙◌, Bool, ap, subst}
+use Rattle.std.proofs.Common.{◌∙◌, Bool, ap, subst}
 use Rattle.std.specs.Option.{option_or}
 use Rattle.stm_events.specs.KeptCauses.{KeptCauses, kept_cause_of}
 use Rattle.stm_events.specs.SlowDesk.{find_waiter}
@@ -6,7 +6,6 @@ use Rattle.stm_machine.specs.Checkpoints.{MayStart}
 use Rattle.stm_desk.specs.DeskView.{DeskView, start_state, state_of}
 use Rattle.stm_desk.specs.Causes.{last_listed, reads_under, cause_sought}
 use Rattle.stm_desk.specs.Reasons.{kept_cause_at, was_stale}
-use Rattle.stm_desk.specs.ReasonsTold.{EachIsWritable}
 use Rattle.stm_desk.proofs.CausesTold.{each_is_writable}
 use Rattle.stm_desk.proofs.FoundCauses.{causes_found}
 use Rattle.stm_desk.proofs.Starts.{IsTypedHistory, typed_history}

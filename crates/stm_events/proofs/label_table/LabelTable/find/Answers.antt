@@ -1,4 +1,4 @@
-use Rattle.std.proofs.Common.{◌≡◌, List, [], ℕ, Option, ap, ◌∙◌}
+use Rattle.std.proofs.Common.{List, [], ℕ, Option, ap, ◌∙◌}
 use Rattle.std.specs.Prelude.{unwrap_or}
 use Rattle.stm_events.specs.Labels.{label_of}
 use Rattle.stm_events.proofs.LabelTables.{label-lookup}

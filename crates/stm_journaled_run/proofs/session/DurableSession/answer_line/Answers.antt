@@ -1,4 +1,4 @@
-use Rattle.std.proofs.Common.{[], ◌∷◌, ◌++◌, IsTrue, Some, None, inr, refl, ◌∙◌}
+use Rattle.std.proofs.Common.{[], ◌∷◌, ◌++◌, Some, None, inr, refl, ◌∙◌}
 use Rattle.stm_run.specs.LineCheckpoints.{made_turn}
 use Rattle.stm_journaled_run.specs.DurableRun.{KeepsConsole}
 use Rattle.stm_journaled_run.proofs.Committing.{line_more, held_more, after_kept, may_commit, may_begin_next, all_written, stopped_in, failed, on_done, on_ok, on_fault}

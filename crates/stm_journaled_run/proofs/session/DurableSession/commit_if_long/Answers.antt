@@ -1,4 +1,4 @@
-use Rattle.std.proofs.Common.{IsTrue, inr, refl}
+use Rattle.std.proofs.Common.{inr, refl}
 use Rattle.stm_journaled_run.specs.DurableRun.{KeepsConsole}
 use Rattle.stm_journaled_run.proofs.Committing.{may_commit, may_begin_next, all_written, failed, on_done, on_fault}
 use Rattle.stm_journaled_run.proofs.RunCrashes.{events_run, lines_still}

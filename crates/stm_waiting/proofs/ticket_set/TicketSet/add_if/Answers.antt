@@ -1,6 +1,3 @@
-use Rattle.std.proofs.Common.{◌∙◌, ◌||◌, ◌&&◌, Bool, ap, sym}
-use Rattle.std.specs.Prelude.{nat_eq}
-use Rattle.stm_queue.specs.SortedTickets.{member}
 use Rattle.stm_queue.proofs.InvariantPreserved.{insert_rising, member_insert}
 use Rattle.stm_waiting.proofs.ticket_set.TicketSet.add_if.Goals as goal
 
