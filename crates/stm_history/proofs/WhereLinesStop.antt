@@ -5,7 +5,7 @@ use Rattle.stm_history.specs.declared.check.Stage.{Stage}
 use Rattle.stm_history.specs.declared.explanation.Explanation.{Explanation}
 use Rattle.stm_history.specs.declared.fault.HistoryFault.{HistoryFault}
 use Rattle.stm_history.specs.declared.fault.HistoryFault.TheVariants.{NoMemory, ReadFault}
-use Rattle.stm_history.specs.Checking.{CheckerState, at_header, at_variables, at_cells, at_blocks, at_events, Forbids, ForbidsNext, IsFaultAt, LinesUpTo, NoFeed, StopsAt, strange}
+use Rattle.stm_history.specs.Checking.{CheckerState, at_header, at_variables, at_cells, at_blocks, at_events, Forbids, ForbidsNext, IsFaultAt, LinesUpTo, NoFeed, NoNext, StopsAt, strange}
 use Rattle.stm_history.specs.Explanation.{Explains, IsAfterLine, ReportsWhy, line_after}
 use Rattle.stm_event_lines.specs.Lines.{event_line}
 use Rattle.stm_history.specs.Stages.{IsStage, Reached}
@@ -43,10 +43,10 @@ forbids_line (at_events start history) line after f n a h =
     let same : line ≡ event_line h.0 = same_line line after (event_line h.0) (10 ∷ h.1) n feed a (inr (h.1, refl)) h.2 in
     (h.0, sym same, h.3, h.4, h.6, h.7)
 
-fault_of_line : (p : CheckerState) (line after : List ℕ) (f : HistoryFault) → f ≢ ReadFault → f ≢ NoMemory → NoFeed line → IsAfterLine after → IsFaultAt p (line ++ after) f → (f ≡ strange p) ⊎ Forbids p line f
+fault_of_line : (p : CheckerState) (line after : List ℕ) (f : HistoryFault) → f ≢ ReadFault → f ≢ NoMemory → NoFeed line → IsAfterLine after → IsFaultAt p (line ++ after) f → ((f ≡ strange p) × NoNext p (line ++ after)) ⊎ Forbids p line f
 fault_of_line p line after f r m n a (inl e) = absurd (r e)
 fault_of_line p line after f r m n a (inr (inl e)) = absurd (m e)
-fault_of_line p line after f r m n a (inr (inr (inl e))) = inl e.0
+fault_of_line p line after f r m n a (inr (inr (inl e))) = inl e
 fault_of_line p line after f r m n a (inr (inr (inr e))) = inr (forbids_line p line after f n a e)
 
 pub why_at : (bytes line after : List ℕ) (f : HistoryFault) (whole number : ℕ) (x : Explanation) → StopsAt f whole bytes → f ≢ ReadFault → f ≢ NoMemory
@@ -64,7 +64,7 @@ why_at bytes line after f whole number x s r m text one_line ends reported =
       lines = reported.lines;
       one_line = one_line;
       ends = ends;
-      fault = subst (λ (p : CheckerState). (f ≡ strange p) ⊎ Forbids p line f) progress fault;
+      fault = subst (λ (p : CheckerState). ((f ≡ strange p) × NoNext p (line ++ after)) ⊎ Forbids p line f) progress fault;
       counted = reported.counted;
       why = reported.why;
     }

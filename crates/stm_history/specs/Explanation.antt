@@ -18,7 +18,7 @@ use Rattle.stm_history.specs.declared.explanation.CallRefusal.TheVariants.{Submi
 use Rattle.stm_history.specs.declared.explanation.Explanation.{Explanation}
 use Rattle.stm_history.specs.declared.explanation.Explanation.TheVariants.{Expected, Refused, Unreadable}
 use Rattle.stm_history.specs.declared.fault.HistoryFault.{HistoryFault}
-use Rattle.stm_history.specs.Checking.{CheckerState, at_header, at_variables, at_cells, at_blocks, at_events, Forbids, LeadsTo, LinesUpTo, NoFeed, strange}
+use Rattle.stm_history.specs.Checking.{CheckerState, at_header, at_variables, at_cells, at_blocks, at_events, Forbids, LeadsTo, LinesUpTo, NoFeed, NoNext, strange}
 use Rattle.stm_event_lines.specs.Fits.{FitsNames, FitsFormat}
 use Rattle.stm_history.specs.Judgement.{IsIllegalFrom, IsShort, next_line}
 use Rattle.stm_history_text.specs.Starts.{Start, first_state, names_after, state_after_start}
@@ -168,8 +168,9 @@ line_after (at_events start history) = next_line start history
 abbrev pub IsAfterLine : List ℕ → Type 0
 IsAfterLine rest = (rest ≡ []) ⊎ ((more : List ℕ) × (rest ≡ 10 ∷ more))
 
--- Why the bytes are no legal history: whole lines of them led to this progress; then comes the line of this number, which has
--- this fault; and this is reported of it.
+-- Why the bytes are no legal history: whole lines of them led to this progress; then comes the line of this number, which no line that may
+-- stand there begins, or which is that of an event that can't follow; so it is the first that has a fault, which is this one; and this is
+-- reported of it.
 pub record ReportsWhy (bytes : List ℕ) (f : HistoryFault) (number : ℕ) (x : Explanation) : Type 0 where
   pub progress : CheckerState
   pub accepted : List ℕ
@@ -179,7 +180,7 @@ pub record ReportsWhy (bytes : List ℕ) (f : HistoryFault) (number : ℕ) (x : 
   pub lines : LinesUpTo progress accepted
   pub one_line : NoFeed line
   pub ends : IsAfterLine rest
-  pub fault : (f ≡ strange progress) ⊎ Forbids progress line f
+  pub fault : ((f ≡ strange progress) × NoNext progress (line ++ rest)) ⊎ Forbids progress line f
   pub counted : number ≡ line_after progress
   pub why : Explains progress line x
 
