@@ -13,7 +13,7 @@ use Rattle.stm_lines.specs.declared.run_fault.RunFault.TheVariants as run_fault
 use Rattle.stm_run.specs.Console.{console_text}
 use Rattle.stm_storm.specs.declared.storming.StormFault.{StormFault}
 use Rattle.stm_storm.specs.declared.storming.StormFault.TheVariants as storm_fault
-use Rattle.stm_explore_script.specs.ExploreStatus.{explore_status}
+use Rattle.stm_explore_script.specs.ExploreStatus.{explore_status, is_finding}
 use Rattle.stm_explore_script.specs.declared.exploring.ExploreFault.{ExploreFault}
 use Rattle.stm_explore_script.specs.declared.exploring.ExploreFault.TheVariants as explore_fault
 use Rattle.stm_command_line.specs.CommandLine.{answers_of, are_mistakes, is_help, is_mistake, is_version, request_of, version_line}
@@ -42,13 +42,14 @@ storm_ends A P r (storm_fault.Run fault) n is s replay = inr (inr (failed fault 
 storm_ends A P r (storm_fault.Script fault) n is s replay = inr (inr (inl s))
 storm_ends A P r storm_fault.Replay n is s replay = inr (inl (s, replay is))
 
-pub exploration_ends : (A : Type 0) (e : ExploreFault) (n : ℕ) → n ≡ explore_status e → A ⊎ ((n ≡ NOT_RIGHT) ⊎ IsFailure n)
-exploration_ends A (explore_fault.Run fault) n s = inr (inr (failed fault n s))
-exploration_ends A (explore_fault.Script fault) n s = inr (inr (inl s))
-exploration_ends A explore_fault.Faulty n s = inr (inl s)
-exploration_ends A explore_fault.Incomplete n s = inr (inl s)
-exploration_ends A explore_fault.NoRoom n s = inr (inl s)
-exploration_ends A explore_fault.Replay n s = inr (inl s)
+pub exploration_ends : (A P : Type 0) (e : ExploreFault) (n : ℕ) → n ≡ explore_status e → (is_finding e ≡ true → P)
+    → A ⊎ (((n ≡ NOT_RIGHT) × P) ⊎ IsFailure n)
+exploration_ends A P (explore_fault.Run fault) n s found = inr (inr (failed fault n s))
+exploration_ends A P (explore_fault.Script fault) n s found = inr (inr (inl s))
+exploration_ends A P explore_fault.Faulty n s found = inr (inl (s, found refl))
+exploration_ends A P explore_fault.Incomplete n s found = inr (inl (s, found refl))
+exploration_ends A P explore_fault.NoRoom n s found = inr (inl (s, found refl))
+exploration_ends A P explore_fault.Replay n s found = inr (inr (inl s))
 
 -- ---- nothing was done
 

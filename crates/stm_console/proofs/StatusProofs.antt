@@ -91,7 +91,7 @@ few_request (Storm options) s n (inl done) = inl done.0
 few_request (Storm options) s n (inr (inl wrong)) = inr (inr (inr (inl wrong.0)))
 few_request (Storm options) s n (inr (inr f)) = few_ends n (inr f)
 few_request (Explore options) s n (inl done) = inl done.0
-few_request (Explore options) s n (inr (inl wrong)) = inr (inr (inr (inl wrong)))
+few_request (Explore options) s n (inr (inl wrong)) = inr (inr (inr (inl wrong.0)))
 few_request (Explore options) s n (inr (inr f)) = few_ends n (inr f)
 few_request Check s n (inl found) = few_finding found.0 n found.1
 few_request Check s n (inr f) = few_ends n (inr f.0)
@@ -126,7 +126,7 @@ taken (Storm options) s (inl done) = end_isnt_2 (inl done.0)
 taken (Storm options) s (inr (inl wrong)) = two_isnt_three wrong.0
 taken (Storm options) s (inr (inr f)) = end_isnt_2 (inr f)
 taken (Explore options) s (inl done) = end_isnt_2 (inl done.0)
-taken (Explore options) s (inr (inl wrong)) = two_isnt_three wrong
+taken (Explore options) s (inr (inl wrong)) = two_isnt_three wrong.0
 taken (Explore options) s (inr (inr f)) = end_isnt_2 (inr f)
 taken Check s (inl found) = finding_isnt_2 found.0 found.1
 taken Check s (inr f) = end_isnt_2 (inr f.0)
@@ -199,7 +199,7 @@ done_storm options s (inr (inr f)) = absurd (failure_isnt_0 f)
 
 pub done_exploration : DoneExplorationsAreRight
 done_exploration options s (inl done) = done.1
-done_exploration options s (inr (inl wrong)) = absurd (zero_isnt_three wrong)
+done_exploration options s (inr (inl wrong)) = absurd (zero_isnt_three wrong.0)
 done_exploration options s (inr (inr f)) = absurd (failure_isnt_0 f)
 
 pub done_version : DoneVersionsAreWritten

@@ -13,7 +13,7 @@ use Rattle.stm_run.specs.LineCheckpoints.{Turn, answers_by, ForTurns}
 use Rattle.stm_options.specs.declared.options.Options.{Options}
 use Rattle.stm_journaled_run.specs.DurableRun.{resumed_console}
 use Rattle.stm_storm.specs.StormText.{IsFailedStormText, IsStormText}
-use Rattle.stm_explore_script.specs.ExploreEnd.{WritesRight}
+use Rattle.stm_explore_script.specs.ExploreEnd.{WritesNotRight, WritesRight}
 use Rattle.stm_command_line.specs.CommandLine.{answers_of, are_mistakes, is_help, is_version, request_of, version_line}
 use Rattle.stm_command_line.specs.declared.command_line.Request.{Request}
 use Rattle.stm_command_line.specs.declared.command_line.Request.TheVariants.{Run, RunOn, Storm, Explore, Check, CheckWhy}
@@ -134,10 +134,12 @@ ProgramDoes (Do (Storm options)) s status =
     ((status ≡ DONE) × IfSome s.input (λ input. (text : List ℕ) × IsStormText input text × Writes s text))
     ⊎ (((status ≡ NOT_RIGHT) × IfSome s.input (λ input. (text : List ℕ) × IsFailedStormText input text × Writes s text))
     ⊎ IsFailure status)
--- an exploration ends with success only if nothing is wrong with any state that its clients can reach, and writes so
+-- an exploration ends with success only if nothing is wrong with any state that its clients can reach, and writes so; with status 3 it
+-- writes which fault it found, or that there are more states than may be kept
 ProgramDoes (Do (Explore options)) s status =
     ((status ≡ DONE) × IfSome s.input (λ input. WritesRight options.history options input s.before s.after))
-    ⊎ ((status ≡ NOT_RIGHT) ⊎ IsFailure status)
+    ⊎ (((status ≡ NOT_RIGHT) × IfSome s.input (λ input. WritesNotRight options.history options input s.before s.after))
+    ⊎ IsFailure status)
 -- a check writes what it finds of the bytes, which the status says too; if it fails, nothing or a part of that
 ProgramDoes (Do Check) s status =
     ((f : Finding) × (status ≡ finding_status f) × IfSome s.input (λ bytes. IsFinding bytes f) × Writes s (finding_text f))

@@ -173,7 +173,7 @@ fn report_exploration<E: Write>(fault: ExploreFault, options: ExploreOptions, er
         }
         ExploreFault::Replay => {
             let _ = writeln!(errors, "{}", ExploreFault::Replay);
-            NOT_RIGHT
+            FAILED
         }
     }
 }
