@@ -3,6 +3,7 @@ pub mod CompiledBlock
 pub mod DeclaredVariable
 pub mod NameText
 pub mod OutOfMemory
+pub mod Readings
 -- The words inside, for what a declaration does to the table.
 pub mod Declares
 pub mod LateVariables
