@@ -19,7 +19,7 @@ known_by rule declared history t w (Before n k m) = let e = m.found in absurd cc
 
 pub headline : (rule : StalenessRule) → table.HeadlineBy rule
 headline rule declared history l =
-    let h = headline_from (initial_state rule declared) history (possible_initial rule declared) (record { each = l.each; few = l.few }) in
+    let h = headline_from (initial_state rule declared) history (possible_initial rule declared) l.each in
     record { blocks = λ t w f. known_by rule declared history t w (h.blocks t w f); store = h.store }
 
 -- ---- the weak status is the status

@@ -65,6 +65,6 @@ module _ (start : Slow) (history : List Event) (p : IsPossible start) (l : Legal
 
 pub headline_from : HeadlineFrom
 headline_from start history p l = record {
-  blocks = λ t w f. known_by start history p l.each t w w.since f refl ((since.tracked_state start history p l.each).each t w f);
-  store = serial_from start history l.each;
+  blocks = λ t w f. known_by start history p l t w w.since f refl ((since.tracked_state start history p l).each t w f);
+  store = serial_from start history l;
 }

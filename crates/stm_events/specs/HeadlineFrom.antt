@@ -3,8 +3,8 @@ use Rattle.std.specs.Prelude.{◌≡◌, ℕ, true, false, not, ◌||◌, List, 
 use Rattle.stm_events.specs.declared.event.Event.{Event}
 use Rattle.stm_events.specs.declared.event.What.TheVariants.{Installed}
 use Rattle.stm_events.specs.Headline.{is_installed, waking_from, LastDelivery}
-use Rattle.stm_events.specs.SlowDesk.{Since, Slow, Waiter, verdict_on, looked_on, intersects, is_new, is_current, find_waiter, after, state_from, serial, serial_steps_from}
-use Rattle.stm_events.specs.States.{IsPossible, IsLegalFrom}
+use Rattle.stm_events.specs.SlowDesk.{Since, Slow, Waiter, verdict_on, looked_on, intersects, is_new, is_current, find_waiter, after, state_from, LegalFrom, serial, serial_steps_from}
+use Rattle.stm_events.specs.States.{IsPossible}
 
 -- the state that a delivery left
 abbrev pub state_then_from : Slow → (history : List Event) (t : ℕ) → LastDelivery history t → Slow
@@ -42,6 +42,6 @@ pub record HeadlineHoldsFrom (s : Slow) (history : List Event) : Type 0 where
   pub blocks : (t : ℕ) (w : Waiter) → find_waiter t (state_from s history).waiters ≡ Some w → IsKnownFrom s history t w
   pub store : (state_from s history).store ≡ serial s.store (serial_steps_from s history)
 
--- so it is after every history that is legal from a possible state
+-- so it is after every history, of any length, each event of which is allowed in its turn from a possible state on
 abbrev pub HeadlineFrom : Type 0
-HeadlineFrom = (s : Slow) (history : List Event) → IsPossible s → IsLegalFrom s history → HeadlineHoldsFrom s history
+HeadlineFrom = (s : Slow) (history : List Event) → IsPossible s → LegalFrom s history → HeadlineHoldsFrom s history

@@ -28,7 +28,7 @@ returns-clause-headline c =
     let d : DeskView = record { table = c.self.inside.table; checkpoint = c.self.inside.checkpoint; limit = c.self.inside.limit; history = c.self.inside.history.items; pending = c.self.inside.machine.pending } in
     let k = c.self.invariant.0 in
     subst (λ (d : DeskView). HeadlineHoldsFrom (start_state d) d.history) c.self.view_is
-    (headline_from (start_state d) d.history (start_possible d.table d.checkpoint k.start) k.legal)
+    (headline_from (start_state d) d.history (start_possible d.table d.checkpoint k.start) k.legal.each)
 
 pub returns-clause-from_variables : goal.returns-clause-from_variables
 returns-clause-from_variables c =

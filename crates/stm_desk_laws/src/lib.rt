@@ -1,0 +1,6 @@
+//! Laws of a desk's whole life: checkpoints and restarts change nothing of what a history means.
+//!
+//! The law is in `laws`. What a reader has to believe is in `specs/Lives`, and below in `stm_events` and `stm_machine`.
+#![tactic(auto)]
+
+pub mod laws;
