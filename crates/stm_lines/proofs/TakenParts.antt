@@ -1,5 +1,5 @@
 -- A line is taken part by part.
-use Rattle.std.proofs.Common.{◌≡◌, ◌≢◌, ℕ, ◌+◌, ◌-◌, ◌≤◌, true, false, List, [], ◌∷◌, ◌++◌, length, take, drop, refl, sym, ap, subst, ◌∙◌, append_assoc, append-nil, arith, length-append, Option, Some, None}
+use Rattle.std.proofs.Common.{◌≡◌, ◌≢◌, ℕ, zero, suc, nat_eq, ◌+◌, ◌-◌, ◌<◌, ◌≤◌, true, false, List, [], ◌∷◌, ◌++◌, length, take, drop, refl, sym, ap, subst, ◌∙◌, append_assoc, append-nil, arith, length-append, Option, Some, None}
 use Rattle.std.proofs.KnownBytes.{Consumes-trans}
 use Rattle.std.proofs.Math.Seq.{drop-length}
 use Rattle.std.proofs.lemmas.List.{length-take-le, take-append-drop}
@@ -9,6 +9,7 @@ use Rattle.memchr.specs.Find.{IsFirstByte, is_byte}
 use Rattle.stm_lines.proofs.LineFeeds.{NoLineFeed-all, NoLineFeed-take, split-at}
 use Rattle.stm_lines.specs.Lines.{NoLineFeed}
 use Rattle.stm_lines.specs.TakenLines.{TakesPartOfLine, TakesLastLine, IsPart, IsSkippedPart, TakesWholeLine}
+use Rattle.stm_lines.specs.declared.line_reader.Part.{Part}
 use Rattle.stm_lines.specs.declared.line_reader.Part.TheVariants as part
 
 -- ---- parts of a chunk
@@ -87,3 +88,38 @@ IsAtEnd-prepended (Some x) chunk e q = ap (λ l. l ++ x) e ∙ q
 -- the input has ended
 pub TakesLastLine-ended : (a b : Option (List ℕ)) (line chunk : List ℕ) → TakesPartOfLine a (prepend_known chunk b) line → chunk ≡ [] → IsAtEnd b → TakesLastLine a (prepend_known chunk b) line
 TakesLastLine-ended a b line chunk h e q = record { plain = h.plain; taken = h.taken; at_end = IsAtEnd-prepended b chunk e q }
+
+-- ---- what a part of the chunk makes of a line that has begun
+-- the line is whole
+pub whole_taken : (limit : ℕ) (p : Part) (a b : Option (List ℕ)) (begun line chunk rest : List ℕ) → TakesPartOfLine a (prepend_known chunk b) begun → p ≡ part.Whole
+    → IsPart p limit begun line chunk rest
+    → TakesWholeLine a (prepend_known rest b) line × (length line ≤ limit) × (length rest + length line < length chunk + length begun)
+whole_taken limit p a b begun line chunk rest h e q =
+    let s = subst (λ (x : Part). IsPart x limit begun line chunk rest) e q in (
+      TakesWholeLine-more a b begun line chunk s.0 rest h s.1 s.2 s.3,
+      s.4,
+      omega (arith, ap length s.2, ap length s.3, length-append begun s.0, length-append s.0 (10 ∷ rest)),
+    )
+
+-- the line is too long
+pub too_long_taken : (limit : ℕ) (p : Part) (a b : Option (List ℕ)) (begun line chunk rest : List ℕ) → TakesPartOfLine a (prepend_known chunk b) begun → p ≡ part.TooLong
+    → IsPart p limit begun line chunk rest
+    → TakesPartOfLine a (prepend_known rest b) line × (length line ≡ limit + 1) × (length rest + length line ≡ length chunk + length begun)
+too_long_taken limit p a b begun line chunk rest h e q =
+    let s = subst (λ (x : Part). IsPart x limit begun line chunk rest) e q in (
+      TakesPartOfLine-more a b begun line chunk s.0 rest h s.1 s.2 s.3,
+      s.4,
+      omega (arith, ap length s.2, ap length s.3, length-append begun s.0, length-append s.0 rest),
+    )
+
+-- the line goes on
+pub all_taken : (limit : ℕ) (p : Part) (a b : Option (List ℕ)) (begun line chunk rest : List ℕ) → TakesPartOfLine a (prepend_known chunk b) begun → p ≡ part.More
+    → IsPart p limit begun line chunk rest
+    → TakesPartOfLine a (prepend_known rest b) line × (length line ≤ limit) × (length line ≡ length chunk + length begun) × NoLineFeed chunk × (rest ≡ [])
+all_taken limit p a b begun line chunk rest h e q =
+    let s = subst (λ (x : Part). IsPart x limit begun line chunk rest) e q in
+    (TakesPartOfLine-all a b begun line chunk rest h s.0 s.1 s.2, s.3, omega (arith, ap length s.1, length-append begun chunk), s.0, s.2)
+
+pub not_empty : (n : ℕ) → false ≡ nat_eq n 0 → 0 < n
+not_empty zero e = absurd (cc)
+not_empty (suc n) e = omega arith
