@@ -1,3 +1,4 @@
+pub mod AddedOptions
 pub mod JournalWords
 pub mod SaidNumbers
 pub mod StormWords

@@ -1,6 +1,6 @@
 //! The words of the command line.
 
-ghost use Rattle.std.specs.Prelude.{◌≡◌, [], ◌∷◌, false, codes, IsTrue, IsOk, IfOk, map, option_and_then, option_map};
+ghost use Rattle.std.specs.Prelude.{◌≡◌, [], ◌∷◌, false, codes, IsTrue, IsOk, IfOk, map, option_and_then, option_map, pos};
 ghost use Rattle.clap.specs.Simple.{subcommand_rows_of};
 ghost use Rattle.clap.specs.Values.{kind_of};
 ghost use Rattle.clap.specs.Walk.{first_of, one_of, rows_of, rule_of};
@@ -264,6 +264,13 @@ fn is_plain_run<S: AsStr>(words: &[S]) -> bool
     }
 }
 
+/// What takes a number from `low` to `high`.
+fn number_parser<'a>(low: u32, high: u32) -> ValueParser<'a>
+    ensures { result ≡ ValueParser.Signed (pos low) (pos high) }
+{
+    value_parser!(u32).range(i64::from(low)..=i64::from(high))
+}
+
 /// An option that takes a number from `low` to `high`.
 fn number_option<'a>(
     alloc: Global,
@@ -276,11 +283,10 @@ fn number_option<'a>(
     ensures rule { rule_of result ≡ number_option name.entry.now low high otherwise.entry.now }
     ensures local { result.global ≡ false }
 {
-    let numbers = value_parser!(u32).range(i64::from(low)..=i64::from(high));
     Arg::new(alloc, name)
         .long(name)
         .value_name("N")
-        .value_parser(numbers)
+        .value_parser(number_parser(low, high))
         .default_value(otherwise)
         .help(help)
 }
@@ -315,11 +321,10 @@ fn checkpoint_option<'a>(alloc: Global, is_hidden: bool) -> Arg<'a>
     ensures rule { rule_of result ≡ checkpoint_option }
     ensures local { result.global ≡ false }
 {
-    let numbers = value_parser!(u32).range(1..=i64::from(Options::MAX_EVENTS));
     Arg::new(alloc, "checkpoint-every")
         .long("checkpoint-every")
         .value_name("N")
-        .value_parser(numbers)
+        .value_parser(number_parser(1, Options::MAX_EVENTS))
         .help(CHECKPOINT_EVERY)
         .hide(is_hidden)
 }
@@ -334,22 +339,19 @@ fn with_numbers<'a>(
     ensures app { IfOk result (λ c. app_of c ≡ with_numbers (new_app name.entry.now)) }
     ensures local { IfOk result (λ c. (fields_of c).has_globals ≡ false) }
 {
-    let workers = number_option(alloc, "workers", 1, Options::MAX_WORKERS, "2", WORKERS);
-    let levels = number_option(alloc, "levels", 0, Options::MAX_LEVELS, "0", LEVELS);
-    let max_events = number_option(
-        alloc,
-        "max-events",
-        0,
-        Options::MAX_EVENTS,
-        "1048576",
-        MAX_EVENTS,
-    );
     Command::new(alloc, name)
         .about(about)
         .after_help(after_help)
-        .arg(workers)?
-        .arg(levels)?
-        .arg(max_events)
+        .arg(number_option(alloc, "workers", 1, Options::MAX_WORKERS, "2", WORKERS))?
+        .arg(number_option(alloc, "levels", 0, Options::MAX_LEVELS, "0", LEVELS))?
+        .arg(number_option(
+            alloc,
+            "max-events",
+            0,
+            Options::MAX_EVENTS,
+            "1048576",
+            MAX_EVENTS,
+        ))
 }
 
 /// A command with the options of a run. A storm has those of a journal too, hidden, and they are refused later: so what follows
@@ -364,13 +366,10 @@ fn with_options<'a>(
     ensures app { IfOk result (λ c. app_of c ≡ with_options (new_app name.entry.now)) }
     ensures local { IfOk result (λ c. (fields_of c).has_globals ≡ false) }
 {
-    let journal = journal_option(alloc, is_storm);
-    let sync = sync_option(alloc, is_storm);
-    let checkpoint = checkpoint_option(alloc, is_storm);
     with_numbers(alloc, name, about, after_help)?
-        .arg(journal)?
-        .arg(sync)?
-        .arg(checkpoint)
+        .arg(journal_option(alloc, is_storm))?
+        .arg(sync_option(alloc, is_storm))?
+        .arg(checkpoint_option(alloc, is_storm))
 }
 
 /// `run` with its options.
@@ -405,22 +404,19 @@ fn search_words<'a>(alloc: Global) -> Result<Command<'a>, AllocError>
     ensures app { IfOk result (λ c. app_of c ≡ search_command) }
     ensures local { IfOk result (λ c. (fields_of c).has_globals ≡ false) }
 {
-    let max_states = number_option(
-        alloc,
-        "max-states",
-        1,
-        ExploreOptions::MAX_STATES,
-        "1000000",
-        MAX_STATES,
-    );
-    let history = flag_option(alloc, "history", HISTORY);
-    let all = flag_option(alloc, "all", ALL);
     Command::new(alloc, "explore")
         .about(EXPLORE)
         .after_help(EXPLORATION)
-        .arg(max_states)?
-        .arg(history)?
-        .arg(all)
+        .arg(number_option(
+            alloc,
+            "max-states",
+            1,
+            ExploreOptions::MAX_STATES,
+            "1000000",
+            MAX_STATES,
+        ))?
+        .arg(flag_option(alloc, "history", HISTORY))?
+        .arg(flag_option(alloc, "all", ALL))
 }
 
 /// `explore` with its options.
@@ -428,30 +424,40 @@ fn explore_words<'a>(alloc: Global) -> Result<Command<'a>, AllocError>
     ensures app { IfOk result (λ c. app_of c ≡ explore_command) }
     ensures local { IfOk result (λ c. (fields_of c).has_globals ≡ false) }
 {
-    let allow_throws = flag_option(alloc, "allow-throws", ALLOW_THROWS);
-    let trace = flag_option(alloc, "trace", TRACE);
-    let progress = flag_option(alloc, "progress", PROGRESS);
     search_words(alloc)?
-        .arg(allow_throws)?
-        .arg(trace)?
-        .arg(progress)
+        .arg(flag_option(alloc, "allow-throws", ALLOW_THROWS))?
+        .arg(flag_option(alloc, "trace", TRACE))?
+        .arg(flag_option(alloc, "progress", PROGRESS))
 }
 
-/// The program with its version and the commands that take the options of a run: `run`, which is the default, and `storm`.
+/// The program with its version, and with no command.
+fn bare_command<'a>(alloc: Global) -> Command<'a>
+    ensures { app_of result ≡ with_version (new_app (codes "stmdesk")) }
+{
+    Command::new(alloc, "stmdesk")
+        .version(VERSION)
+        .about(ABOUT)
+        .after_help(NEXT)
+}
+
+/// The same with `run`, which is the default.
+fn command_of_run<'a>(alloc: Global) -> Result<Command<'a>, AllocError>
+    ensures { IfOk result (λ c. app_of c
+        ≡ with_subcommand (with_version (new_app (codes "stmdesk"))) run_command.top) }
+{
+    let run = run_words(alloc)?;
+    bare_command(alloc).subcommand(run)
+}
+
+/// The same with `storm`, which takes the options of a run too.
 fn command_of_runs<'a>(alloc: Global) -> Result<Command<'a>, AllocError>
     ensures { IfOk result (λ c. app_of c
         ≡ with_subcommand
         (with_subcommand (with_version (new_app (codes "stmdesk"))) run_command.top)
         storm_command.top) }
 {
-    let run = run_words(alloc)?;
     let storm = storm_words(alloc)?;
-    Command::new(alloc, "stmdesk")
-        .version(VERSION)
-        .about(ABOUT)
-        .after_help(NEXT)
-        .subcommand(run)?
-        .subcommand(storm)
+    command_of_run(alloc)?.subcommand(storm)
 }
 
 /// The same with `explore`.
