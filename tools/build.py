@@ -175,16 +175,21 @@ def end_all():
             os.killpg(process, signal.SIGTERM)
 
 
-def words(crate, jobs):
-    """The command that proves a crate over the statements of those below, and builds it."""
+def checked(crate, jobs):
+    """The words after the command that say which crate the prover checks, over the statements of those below, with this many jobs."""
     of_kit = ["std", *[it for it in crate.line.partition(":")[2].split() if it not in [low.name for low in crate.direct]]]
     libraries = {it: kit() / "rlibs" / f"{it}.rlib" for it in of_kit}
     libraries |= {it.name: it.folder / "out" / "rlib" / f"{it.name}.rlib" for it in crate.direct}
-    found = [kit() / "bin" / "rattle", "build", "--crate-name", crate.name, f"src/{'main' if crate.is_program else 'lib'}.rt"]
+    found = ["--crate-name", crate.name, f"src/{'main' if crate.is_program else 'lib'}.rt"]
     found += [word for name, path in libraries.items() for word in ("--extern", f"{name}={path}")]
     found += [word for it in [kit() / "rlibs", *[it.folder / "out" / "rlib" for it in crate.below]] for word in ("-L", f"dependency={it}")]
     found += ["--antt-project", kit() / "rattle" / "logic" / "antt-project.json", "--logic-built", kit() / "logic_built"]
-    found += ["--links", f"{crate.name}=", "--jobs", str(jobs)]
+    return [*found, "--links", f"{crate.name}=", "--jobs", str(jobs)]
+
+
+def words(crate, jobs):
+    """The command that proves a crate over the statements of those below, and builds it."""
+    found = [kit() / "bin" / "rattle", "build", *checked(crate, jobs)]
     if crate.is_program or crate.is_static:
         found += ["--toolchain", kit() / "toolchain", "--backend", "llvm", *["--crate-type", "staticlib"] * crate.is_static]
         return [*found, "-o", f"out/{crate.name}.o" if crate.is_program else f"out/lib{crate.name}.a"]
