@@ -1,5 +1,6 @@
 """What tests need beside Python, and root installs from Debian's packages if it isn't there."""
 
+import fcntl
 import functools
 import importlib.util
 import os
@@ -7,6 +8,7 @@ import pathlib
 import shutil
 import subprocess
 import sys
+import tempfile
 
 import browser as browsers
 
@@ -16,9 +18,15 @@ SYSTEM = pathlib.Path("/usr/lib/python3/dist-packages")
 
 @functools.cache
 def install(*packages):
-    """Tries to install packages. Returns nothing: whoever asks looks whether it is there."""
+    """Tries to install packages, in turn with other tests. Returns nothing: whoever asks looks whether it is there."""
     if not shutil.which("apt-get") or os.geteuid() != 0:
         return
+    with open(pathlib.Path(tempfile.gettempdir()) / "stmdesk-tests-install.lock", "w", encoding="ascii") as lock:
+        fcntl.flock(lock, fcntl.LOCK_EX)
+        install_now(packages)
+
+
+def install_now(packages):
     environment = {**os.environ, "DEBIAN_FRONTEND": "noninteractive"}
 
     def run(*words):
