@@ -333,7 +333,6 @@ fn strange_fault(stage: &Stage) -> HistoryFault
 
 /// A check under way: the seed of its table, the stage, how many bytes of whole lines led to it, and the bytes of a line that
 /// has begun.
-#[derive(Drop)]
 pub(crate) struct Checker {
     pub alloc: Global,
     pub seed: Seed,
@@ -342,7 +341,34 @@ pub(crate) struct Checker {
     pub line: Vec<u8>,
 }
 
+// Written out, and not derived, so that the proof of each owner calls it once.
+impl Drop for Checker {
+    fn drop(self) {
+        let Checker {
+            alloc: _,
+            seed: _,
+            stage: _,
+            whole: _,
+            line: _,
+        } = self;
+    }
+}
+
 impl Checker {
+    /// The stage that was reached.
+    pub(crate) fn into_stage(self) -> Stage
+        ensures same { result ≡ self.stage }
+    {
+        let Checker {
+            alloc: _,
+            seed: _,
+            stage,
+            whole: _,
+            line: _,
+        } = self;
+        stage
+    }
+
     /// Before the first line. The caller says whether the events are to be kept.
     pub(crate) fn new(alloc: Global, seed: Seed, keep: bool) -> Checker
         ensures reached { Reached result.stage result.whole result.line.items [] }

@@ -162,14 +162,7 @@ impl Checker {
         ensures latest { IsLatest result.format result.checkpoint }
         ensures at { IsAt result.machine (state_from (start_of result.table result.checkpoint) result.events.items) }
     {
-        let Checker {
-            alloc: _,
-            seed: _,
-            stage,
-            whole: _,
-            line: _,
-        } = self;
-        match stage {
+        match self.into_stage() {
             Stage::Before { .. } => unreachable!(),
             Stage::Declaring { .. } => unreachable!(),
             Stage::AtCells { .. } => unreachable!(),

@@ -89,6 +89,22 @@ fn take_front(checker: &mut Checker, front: &[u8]) -> Result<(), NoMemory>
     }
 }
 
+/// Takes the front; returns the number of the line after it, and what is reported of that line.
+fn explain_next(
+    alloc: Global,
+    checker: &mut Checker,
+    front: &[u8],
+    line: &[u8],
+) -> Result<(u32, Explanation), NoMemory>
+    requires { Reached checker.old.stage checker.old.whole checker.old.line.items [] }
+    ensures { IfOk result (λ r. IsReportedAfter front.now line.now r.0 r.1) }
+{
+    take_front(checker, front)?;
+    let number = next_number(&checker.stage);
+    let explanation = explain(alloc, &mut checker.stage, line)?;
+    Ok((number, explanation))
+}
+
 /// The number of the line after the front, and what is reported of it.
 fn explain_after(
     alloc: Global,
@@ -99,10 +115,7 @@ fn explain_after(
     ensures { IfOk result (λ r. IsReportedAfter front.now line.now r.0 r.1) }
 {
     let mut checker = Checker::new(alloc, seed, false);
-    take_front(&mut checker, front)?;
-    let number = next_number(&checker.stage);
-    let explanation = explain(alloc, &mut checker.stage, line)?;
-    Ok((number, explanation))
+    explain_next(alloc, &mut checker, front, line)
 }
 
 /// The reason of a fault after this many bytes of whole lines.
@@ -150,6 +163,19 @@ fn reason_for(
     }
 }
 
+/// Judges the bytes from their beginning. With a fault comes how many of them are whole lines that were accepted.
+fn judge_all(alloc: Global, seed: Seed, bytes: &[u8]) -> Result<Legal, (HistoryFault, usize)>
+    ensures ok { IfOk result (λ n. IsHistory bytes.now n) }
+    ensures fault { IfErr result (λ e. ReportsFault e.0 bytes.now) }
+    ensures stops { IfErr result (λ e. (e.0 ≢ HistoryFault.NoMemory) → StopsAt e.0 e.1 bytes.now) }
+{
+    let mut checker = Checker::new(alloc, seed, false);
+    match judge(&mut checker, bytes) {
+        Ok(legal) => Ok(legal),
+        Err(fault) => Err((fault, checker.whole)),
+    }
+}
+
 /// Judges bytes as a history, as `check_history` does, and reports why they are none. If they have a fault, the lines before it
 /// are judged twice. The fault of a reason is never `ReadFault` or `NoMemory`.
 pub fn why_history(
@@ -165,12 +191,8 @@ pub fn why_history(
     ensures why { IfOk result (λ r. IfErr r (λ e.
         ReportsWhy bytes.now e.fault e.line e.explanation)) }
 {
-    let mut checker = Checker::new(alloc, seed, false);
-    match judge(&mut checker, bytes) {
+    match judge_all(alloc, seed, bytes) {
         Ok(legal) => Ok(Ok(legal)),
-        Err(fault) => {
-            let reason = reason_for(alloc, seed, bytes, fault, checker.whole)?;
-            Ok(Err(reason))
-        }
+        Err((fault, whole)) => Ok(Err(reason_for(alloc, seed, bytes, fault, whole)?)),
     }
 }
