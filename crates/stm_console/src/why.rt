@@ -168,6 +168,27 @@ fn answer_why(alloc: Global, seed: Seed, bytes: &[u8]) -> Result<(Finding, Strin
     }
 }
 
+/// Writes what is printed of the bytes, and flushes; returns what was found.
+fn answer_bytes<W: Write>(
+    alloc: Global,
+    seed: Seed,
+    bytes: &[u8],
+    writer: &mut W,
+) -> Result<Finding, RunFault>
+    ensures found { IfOk result (λ f. (text : List ℕ) × IsAnswerWhy bytes.now f text
+        × Appends (W.contents writer.old) (W.contents writer.new) text) }
+    ensures part { OnErr result ((front : List ℕ) × BeginsAnswerWhy bytes.now front
+        × Appends (W.contents writer.old) (W.contents writer.new) front) }
+    ensures unfound { IfErr result (λ e.
+        e ≢ RunFault.Write → Keeps (W.contents writer.old) (W.contents writer.new)) }
+{
+    let (finding, text) = answer_why(alloc, seed, bytes)?;
+    match write_flushed(writer, text.as_bytes()) {
+        Ok(()) => Ok(finding),
+        Err(fault) => Err(fault),
+    }
+}
+
 /// Reads a history to its end, writes whether it is legal, and if it isn't what would be accepted in place of the first line
 /// that isn't, and flushes. The whole history is read into memory first.
 ///
@@ -193,9 +214,5 @@ pub fn check_why<R: Read, W: Write>(
         e ≢ RunFault.Write → Keeps (W.contents writer.old) (W.contents writer.new)) }
 {
     let bytes = read_all(alloc, reader)?;
-    let (finding, text) = answer_why(alloc, seed, &bytes)?;
-    match write_flushed(writer, text.as_bytes()) {
-        Ok(()) => Ok(finding),
-        Err(fault) => Err(fault),
-    }
+    answer_bytes(alloc, seed, &bytes, writer)
 }
