@@ -14,7 +14,8 @@ use Rattle.stm_desk.specs.DeskView.{DeskView, start_state, state_of, labels_of}
 use Rattle.stm_desk.specs.Checkpointed.{causes_of, checkpointed}
 use Rattle.stm_commands.specs.declared.jobs.KeptJob.{KeptJob}
 use Rattle.stm_commands.specs.OpenDesk.{HandedOut}
-use Rattle.stm_commands.specs.OpenInvariant.{job_kept, HaveStores, JobsStand, IsPresentCopy, NamesFollow, OpenInvariant}
+use Rattle.stm_source.specs.LaterNames.{NamesFollow}
+use Rattle.stm_commands.specs.OpenInvariant.{job_kept, HaveStores, JobsStand, IsPresentCopy, OpenInvariant}
 
 -- a waiting block as the state of a checkpoint has it
 abbrev seen_again : List Cell → Waiter → Waiter

@@ -38,9 +38,11 @@ use Rattle.stm_events.specs.SlowSettle.{Order}
 use Rattle.stm_commands.specs.declared.jobs.KeptJob.{KeptJob}
 use Rattle.stm_commands.specs.Jobs.{job_of, jobs_of}
 use Rattle.stm_commands.specs.OpenDesk.{HandedOut}
-use Rattle.stm_commands.specs.OpenInvariant.{handed_out, job_kept, HaveStores, JobStands, JobsStand, IsPresentCopy, NamesFollow, OpenInvariant, HasGrown}
+use Rattle.stm_source.specs.LaterNames.{NamesFollow}
+use Rattle.stm_source.proofs.LaterNames.{same_names}
+use Rattle.stm_commands.specs.OpenInvariant.{handed_out, job_kept, HaveStores, JobStands, JobsStand, IsPresentCopy, OpenInvariant, HasGrown}
 use Rattle.stm_commands.proofs.KeptStores.{stores_grown}
-use Rattle.stm_commands.proofs.LegalDesks.{grown_state, grown_legal, grown_possible, same_names, names_grown}
+use Rattle.stm_commands.proofs.LegalDesks.{grown_state, grown_legal, grown_possible, names_grown}
 
 -- the desk after one event more
 pub now_next : (d : DeskView) (client : ℕ) (w : What) → state_of (with_event d client w) ≡ after (state_of d) w

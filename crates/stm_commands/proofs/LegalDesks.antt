@@ -1,10 +1,10 @@
 -- The state of a desk, and the states that its history goes through: events may go on from each, and each has the names of those before.
-use Rattle.std.proofs.Common.{◌≡◌, List, [], ◌∷◌, ◌++◌, refl, sym, ap, ◌∙◌, subst, append-nil, append_assoc}
-use Rattle.stm_store.specs.Naming.{Named}
+use Rattle.std.proofs.Common.{◌≡◌, List, [], ◌∷◌, Result, Ok, Err, IfOk, sym, ap, ◌∙◌, subst}
+use Rattle.stm_store.specs.Cells.{Covers, plains}
+use Rattle.stm_store.specs.Naming.{Named, named_uses}
 use Rattle.stm_store.specs.Tables.{Declared}
+use Rattle.stm_check.specs.TypedBlock.{Block}
 use Rattle.stm_events.specs.declared.event.Event.{Event}
-use Rattle.stm_events.specs.declared.event.What.{What}
-use Rattle.stm_events.specs.declared.event.What.TheVariants.{Submitted, Installed, Finished, Cancelled, Declared as DeclaredLate, Labelled}
 use Rattle.stm_events.specs.SlowDesk.{Slow, LegalFrom, after, state_from}
 use Rattle.stm_events.specs.States.{IsPossible, IsLegalFrom}
 use Rattle.stm_events.proofs.Folds.{state-append}
@@ -13,7 +13,12 @@ use Rattle.stm_events.proofs.Possible.{possible_from}
 use Rattle.stm_machine.specs.Checkpoints.{start_of, MayStart}
 use Rattle.stm_desk.specs.DeskView.{DeskView, start_state, state_of}
 use Rattle.stm_desk.proofs.Starts.{start_possible}
-use Rattle.stm_commands.specs.OpenInvariant.{NamesFollow, HasGrown}
+use Rattle.stm_source.specs.declared.refusal.Refusal.{Refusal}
+use Rattle.stm_source.specs.LaterNames.{NamesFollow}
+use Rattle.stm_source.proofs.LaterNames.{same_names, names_trans}
+use Rattle.stm_source.proofs.PreparedBlocks.{IsCovered}
+use Rattle.stm_event_lines.proofs.LaterNames.{names_after_event}
+use Rattle.stm_commands.specs.OpenInvariant.{HasGrown}
 
 -- events may go on from the state of a desk
 pub desk_possible : (d : DeskView) → MayStart d.table d.checkpoint → IsLegalFrom (start_state d) d.history → IsPossible (state_of d)
@@ -46,26 +51,16 @@ grown_possible d e g =
     (both_legal d e g).first
 
 -- ---- names
-pub same_names : (known : List Named) → NamesFollow known known
-same_names known = record { later = []; are = sym (append-nil known) }
-
-names_trans : (few known more : List Named) → NamesFollow few known → NamesFollow known more → NamesFollow few more
-names_trans few known more a b = record {
-  later = a.later ++ b.later;
-  are = b.are ∙ ap (λ (ns : List Named). ns ++ b.later) a.are ∙ append_assoc few a.later b.later;
-}
-
-names_after : (s : Slow) (w : What) → NamesFollow s.names (after s w).names
-names_after s (Submitted t b) = same_names s.names
-names_after s (Installed t v) = same_names s.names
-names_after s (Finished t v n stale) = same_names s.names
-names_after s (Cancelled t) = same_names s.names
-names_after s (DeclaredLate name kind value) = record { later = _; are = refl }
-names_after s (Labelled t label) = same_names s.names
+-- the present store has the variables that a block over the present names names
+pub covered_now : (d : DeskView) (names : List Named) (r : Result Block Refusal) → names ≡ (state_of d).names → MayStart d.table d.checkpoint → IsLegalFrom (start_state d) d.history
+    → IfOk r (λ b. IsCovered names b) → IfOk r (λ b. Covers (plains (state_of d).store) b.uses)
+covered_now d names (Ok b) e start legal h =
+    h (plains (state_of d).store) (subst (λ (ns : List Named). Covers (plains (state_of d).store) (named_uses ns)) (sym e) (desk_possible d start legal).named)
+covered_now d names (Err x) e start legal h = tt
 
 names_from : (s : Slow) (es : List Event) → NamesFollow s.names (state_from s es).names
 names_from s [] = same_names s.names
-names_from s (e ∷ es) = names_trans s.names (after s e.what).names (state_from s (e ∷ es)).names (names_after s e.what) (names_from (after s e.what) es)
+names_from s (e ∷ es) = names_trans s.names (after s e.what).names (state_from s (e ∷ es)).names (names_after_event s e.what) (names_from (after s e.what) es)
 
 -- those of a desk that has grown come after those that it had
 pub names_grown : (d e : DeskView) (few : List Named) → HasGrown d e → NamesFollow few (state_of d).names → NamesFollow few (state_of e).names

@@ -12,6 +12,5 @@ pub mod LabelTexts
 pub mod LaterEvents
 pub mod LegalDesks
 pub mod OutTickets
-pub mod PreparedBlocks
 pub mod ReadyTickets
 pub mod WaiterLines

@@ -14,5 +14,4 @@ pub mod OpenDesk
 pub mod Questions
 pub mod Refusals
 -- The words inside, for what the type of an open desk keeps.
-pub mod BlockCache
 pub mod OpenInvariant

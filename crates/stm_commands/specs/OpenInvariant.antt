@@ -15,6 +15,7 @@ use Rattle.stm_events.specs.SlowDesk.{Waiter, is_current, find_waiter}
 use Rattle.stm_events.specs.States.{IsTicketOf, IsLegalFrom}
 use Rattle.stm_machine.specs.Checkpoints.{MayStart}
 use Rattle.stm_jobs.specs.Answers.{AnswersJob}
+use Rattle.stm_source.specs.LaterNames.{NamesFollow}
 use Rattle.stm_desk.specs.Events.{installation_of}
 use Rattle.stm_desk.specs.Refusals.{RefusesDelivery, requeued_if_overtaken}
 use Rattle.stm_desk.specs.DeskView.{DeskView, start_state, state_of, with_event}
@@ -63,11 +64,6 @@ HaveStores ws (k ∷ ks) = HasStore ws k × HaveStores ws ks
 abbrev pub IsPresentCopy : DeskView → Option (List (Ty × Value)) → Type 0
 IsPresentCopy d None = Unit {0}
 IsPresentCopy d (Some cells) = cells ≡ plains (state_of d).store
-
--- the names are these, and maybe others after them
-pub record NamesFollow (few names : List Named) : Type 0 where
-  pub later : List Named
-  pub are : names ≡ few ++ later
 
 -- what the type of an open desk keeps; its kept blocks were checked over some of the names
 pub record OpenInvariant (d : DeskView) (copy : Option (List (Ty × Value))) (jobs : List KeptJob) (cache : List Named) : Type 0 where

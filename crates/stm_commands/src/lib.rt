@@ -1,9 +1,8 @@
 //! The open desk of a run, and its commands: what each does, and what it prints.
 //!
-//! `open_desk` has the desk with the jobs that it handed out, `commands` each command in a file of its own. `block_cache`
-//! keeps blocks by their texts. `jobs` has jobs with the stores of their `take`, which `stores` drops; `delivery` delivers
-//! what their blocks do, and `evaluation` evaluates all that is queued. `refusals` prints what is refused, and `threading`
-//! says how many threads evaluate.
+//! `open_desk` has the desk with the jobs that it handed out, `commands` each command in a file of its own. `jobs` has jobs
+//! with the stores of their `take`, which `stores` drops; `delivery` delivers what their blocks do, and `evaluation` evaluates
+//! all that is queued. `refusals` prints what is refused, and `threading` says how many threads evaluate.
 //!
 //! What a reader has to believe is in these modules of specs/: `OpenDesk` has the desk with the jobs handed out, and what a
 //! step is; `Blocks`, `Declaring`, `Atomically`, `Jobs`, `Evaluation`, `Endings` and `Checkpointing` the steps of the commands, `Contents` and `Questions`
@@ -11,7 +10,6 @@
 //! `DueTickets` which tickets are to be evaluated.
 #![tactic(auto)]
 
-mod block_cache;
 pub mod commands;
 mod delivery;
 pub mod evaluation;

@@ -11,7 +11,6 @@ ghost use Rattle.stm_source.specs.CompiledBlock.{compiled_block};
 ghost use Rattle.stm_source.specs.OutOfMemory.{IsOutOfMemory};
 ghost use Rattle.stm_commands.specs.OpenDesk.{opened_desk, known, present};
 
-use crate::block_cache::BlockCache;
 use crate::jobs::KeptJob;
 use crate::stores::Stores;
 use std::alloc::Global;
@@ -19,7 +18,7 @@ use std::marker::Model;
 use stm_check::SharedBlock;
 use stm_desk::{Checkpoint, Desk};
 use stm_events::Event;
-use stm_source::Refusal;
+use stm_source::{BlockCache, Refusal};
 use stm_store::{Frozen, Table};
 use stm_terms::NoMemory;
 

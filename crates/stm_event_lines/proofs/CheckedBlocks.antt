@@ -1,6 +1,5 @@
 -- A block that a text checks to is well typed.
-use Rattle.std.proofs.Common.{◌≡◌, ℕ, List, [], Result, Ok, Err, ◌++◌, refl, ap, ◌∙◌, subst}
-use Rattle.stm_terms.specs.declared.kinds.Ty.{Ty}
+use Rattle.std.proofs.Common.{◌≡◌, ℕ, List, [], Result, Ok, Err, refl, subst}
 use Rattle.stm_terms.specs.Ast.{Act}
 use Rattle.stm_terms.specs.ParsedAst as raw
 use Rattle.stm_terms.specs.Typing.{ActionType, uses_of}
@@ -10,10 +9,9 @@ use Rattle.stm_store.specs.Naming.{Named, known_kinds}
 use Rattle.stm_check.specs.CheckFunction.{checked}
 use Rattle.stm_check.specs.TypedBlock.{Block}
 use Rattle.stm_check.specs.declared.fault.TypeFault.{TypeFault}
-use Rattle.stm_check.proofs.LaterNames.{checked_stay}
 use Rattle.stm_check.proofs.TypedBlockInvariant.{kept_type}
 use Rattle.stm_events.specs.Laws.{IsWellTyped}
-use Rattle.stm_event_lines.specs.CheckedBlocks.{CheckedAreWellTyped, CheckedBlocksStay}
+use Rattle.stm_event_lines.specs.CheckedBlocks.{CheckedAreWellTyped}
 use Rattle.stm_source.specs.CompiledBlock.{given_type, block_if_typed, block_if_parsed, compiled_block}
 
 block_by : (known : List Named) (text : List ℕ) (tree : raw.RawAct) (block : Block) (o : Result (Act × ActionType) TypeFault) → checked known text [] tree ≡ o → block_if_typed known text o ≡ Ok block → IsWellTyped block
@@ -30,20 +28,3 @@ parsed_by known text block (Ok tree) e = block_by known text tree block (checked
 pub checked_are_well_typed : CheckedAreWellTyped
 unfolding compiled_block
 checked_are_well_typed known text block e = parsed_by known text block (parsed_block text) e
-
--- ---- more names
-typed_stays : (few more : List Named) (text : List ℕ) (tree : raw.RawAct) (block : Block) (o : Result (Act × ActionType) TypeFault) → checked few text [] tree ≡ o → block_if_typed few text o ≡ Ok block
-    → block_if_typed (few ++ more) text (checked (few ++ more) text [] tree) ≡ Ok block
-typed_stays few more text tree block (Err f) c e = cc
-typed_stays few more text tree block (Ok p) c e =
-    let q = checked_stay few more text tree [] p.0 p.1 c in
-    ap (block_if_typed (few ++ more) text) q.0
-    ∙ ap (λ (us : List (ℕ × Ty)). Ok (record { tree = p.0; text = text; result_type = given_type p.1; uses = us })) q.1 ∙ e
-
-parsed_stays : (few more : List Named) (text : List ℕ) (block : Block) (o : Result raw.RawAct ParseFault) → block_if_parsed few text o ≡ Ok block → block_if_parsed (few ++ more) text o ≡ Ok block
-parsed_stays few more text block (Err f) e = cc
-parsed_stays few more text block (Ok tree) e = typed_stays few more text tree block (checked few text [] tree) refl e
-
-pub checked_blocks_stay : CheckedBlocksStay
-unfolding compiled_block
-checked_blocks_stay few more text block e = parsed_stays few more text block (parsed_block text) e

@@ -3,6 +3,7 @@ pub mod CheckedBlocks
 pub mod Checkpoints
 pub mod Exact
 pub mod FitsPushed
+pub mod LaterNames
 pub mod ReadLoosely
 pub mod OneLines
 pub mod Ranges

@@ -1,5 +1,5 @@
 -- What holds of the block that a text parses and checks to.
-use Rattle.std.specs.Prelude.{◌≡◌, ℕ, List, ◌++◌, Ok}
+use Rattle.std.specs.Prelude.{◌≡◌, ℕ, List, Ok}
 use Rattle.stm_store.specs.Naming.{Named}
 use Rattle.stm_check.specs.TypedBlock.{Block}
 use Rattle.stm_source.specs.CompiledBlock.{compiled_block}
@@ -9,9 +9,3 @@ use Rattle.stm_events.specs.Laws.{IsWellTyped}
 abbrev pub CheckedAreWellTyped : Type 0
 CheckedAreWellTyped =
     (known : List Named) (text : List ℕ) (block : Block) → compiled_block known text ≡ Ok block → IsWellTyped block
-
--- and stays the same block if more names are known
-abbrev pub CheckedBlocksStay : Type 0
-CheckedBlocksStay =
-    (few more : List Named) (text : List ℕ) (block : Block)
-    → compiled_block few text ≡ Ok block → compiled_block (few ++ more) text ≡ Ok block

@@ -24,7 +24,7 @@ use Rattle.stm_event_lines.specs.CheckpointLines.{FitsDelivery, checkpoint_forma
 use Rattle.stm_event_lines.specs.Fits.{WhatFitsFormat, WhatFitsNames}
 use Rattle.stm_event_lines.specs.Lines.{declaring_format}
 use Rattle.stm_event_lines.specs.CheckedBlocks.{CheckedAreWellTyped}
-use Rattle.stm_event_lines.proofs.CheckedBlocks.{checked_blocks_stay}
+use Rattle.stm_source.proofs.LaterNames.{checked_blocks_stay}
 use Rattle.stm_history.specs.Judgement.{FitCells, FitBlocks, FitsBefore, FormatFits}
 use Rattle.stm_history_text.specs.Starts.{AreOfText, BlocksAreOfText, are_plain_blocks, declares, format_of_start, is_declaration, is_labelling, labels_blocks}
 use Rattle.stm_history.proofs.KeptIsTaken.{written_fits}

@@ -1,2 +1,4 @@
+pub mod LaterNames
 mod OneAnswer
+pub mod PreparedBlocks
 pub mod UsesAreCovered

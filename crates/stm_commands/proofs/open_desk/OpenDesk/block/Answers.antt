@@ -1,8 +1,8 @@
 use Rattle.std.proofs.Common.{List, sym, subst, ◌∙◌}
 use Rattle.stm_store.specs.Naming.{Named}
-use Rattle.stm_commands.specs.OpenInvariant.{NamesFollow}
+use Rattle.stm_source.specs.LaterNames.{NamesFollow}
 use Rattle.stm_commands.proofs.Growing.{kept_prepared}
-use Rattle.stm_commands.proofs.PreparedBlocks.{covered_now}
+use Rattle.stm_commands.proofs.LegalDesks.{covered_now}
 use Rattle.stm_commands.proofs.open_desk.OpenDesk.block.Goals as goal
 
 pub block-requires : goal.block-requires

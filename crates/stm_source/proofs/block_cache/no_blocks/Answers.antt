@@ -1,7 +1,7 @@
 use Rattle.std.proofs.Common.{rules, ◌≡◌, [], ◌∷◌, ◌++◌, None, sym, subst}
-use Rattle.stm_commands.specs.BlockCache.{ArePrepared}
-use Rattle.stm_commands.proofs.PreparedBlocks.{prepared_push}
-use Rattle.stm_commands.proofs.block_cache.no_blocks.Goals as goal
+use Rattle.stm_source.specs.BlockCache.{ArePrepared}
+use Rattle.stm_source.proofs.PreparedBlocks.{prepared_push}
+use Rattle.stm_source.proofs.block_cache.no_blocks.Goals as goal
 
 pub loop-place-preserved : goal.loop-place-preserved
 loop-place-preserved c =

@@ -11,18 +11,14 @@ use Rattle.stm_check.specs.CheckFunction.{checked}
 use Rattle.stm_check.specs.declared.fault.TypeFault.{TypeFault}
 use Rattle.stm_terms.specs.declared.kinds.Ty.{Ty}
 use Rattle.stm_terms.specs.declared.values.Value.{Value}
-use Rattle.stm_store.specs.Cells.{Covers, plains}
+use Rattle.stm_store.specs.Cells.{Covers}
 use Rattle.stm_store.specs.Naming.{Named, named_uses, known_kinds}
 use Rattle.stm_source.specs.CompiledBlock.{given_type, block_if_typed, block_if_parsed, compiled_block}
-use Rattle.stm_event_lines.proofs.CheckedBlocks.{checked_blocks_stay}
-use Rattle.stm_events.specs.States.{IsLegalFrom}
-use Rattle.stm_machine.specs.Checkpoints.{MayStart}
-use Rattle.stm_desk.specs.DeskView.{DeskView, start_state, state_of}
 use Rattle.stm_source.specs.declared.refusal.Refusal.{Refusal}
 use Rattle.stm_source.specs.OutOfMemory.{IsOutOfMemory}
-use Rattle.stm_commands.specs.BlockCache.{IsBlockOf, IsPrepared, ArePrepared}
-use Rattle.stm_commands.specs.OpenInvariant.{NamesFollow}
-use Rattle.stm_commands.proofs.LegalDesks.{desk_possible}
+use Rattle.stm_source.specs.BlockCache.{IsBlockOf, IsPrepared, ArePrepared}
+use Rattle.stm_source.specs.LaterNames.{NamesFollow}
+use Rattle.stm_source.proofs.LaterNames.{checked_blocks_stay}
 
 -- a block has its text
 typed_text : (known : List Named) (text : List ℕ) (b : Block) (o : Result (Act × ActionType) TypeFault) → block_if_typed known text o ≡ Ok b → b.text ≡ text
@@ -65,7 +61,7 @@ answers_shared known text b (Ok x) h p q = h.0 ∙ ap (λ (y : Block). Ok y) (sy
 answers_shared known text b (Err e) h p q = λ n. absurd (n q)
 
 -- the variables that a block names are in each store with the named ones
-abbrev IsCovered : List Named → Block → Type 0
+abbrev pub IsCovered : List Named → Block → Type 0
 IsCovered known b = (cells : List (Ty × Value)) → Covers cells (named_uses known) → Covers cells b.uses
 
 pub covers_shared : (known : List Named) (text : List ℕ) (b : Block) (r : Result Block Refusal) → IsBlockOf known text b → IfOk r (λ x. x ≡ b) → IfOk r (λ x. IsCovered known x)
@@ -99,10 +95,3 @@ prepared_later few known os n h = subst (λ (ns : List Named). ArePrepared ns os
 pub prepared_now : (few old known kept : List Named) (os : List (Option Block)) → few ≡ old → NamesFollow old known → kept ≡ known → ArePrepared few os → ArePrepared kept os
 prepared_now few old known kept os e n k h =
     subst (λ (ns : List Named). ArePrepared ns os) (sym k) (prepared_later few known os (subst (λ (ns : List Named). NamesFollow ns known) (sym e) n) h)
-
--- ---- on a desk
-pub covered_now : (d : DeskView) (names : List Named) (r : Result Block Refusal) → names ≡ (state_of d).names → MayStart d.table d.checkpoint → IsLegalFrom (start_state d) d.history
-    → IfOk r (λ b. IsCovered names b) → IfOk r (λ b. Covers (plains (state_of d).store) b.uses)
-covered_now d names (Ok b) e start legal h =
-    h (plains (state_of d).store) (subst (λ (ns : List Named). Covers (plains (state_of d).store) (named_uses ns)) (sym e) (desk_possible d start legal).named)
-covered_now d names (Err x) e start legal h = tt

@@ -1,7 +1,7 @@
 use Rattle.std.proofs.Common.{◌≡◌, List, ℕ, Ok, sym, subst}
 use Rattle.stm_source.specs.CompiledBlock.{compiled_block}
-use Rattle.stm_commands.proofs.PreparedBlocks.{compiled_text, answers_shared, covers_shared}
-use Rattle.stm_commands.proofs.block_cache.prepared_block.Goals as goal
+use Rattle.stm_source.proofs.PreparedBlocks.{compiled_text, answers_shared, covers_shared}
+use Rattle.stm_source.proofs.block_cache.prepared_block.Goals as goal
 
 pub returns-in-Some-clause-block : goal.returns-in-Some-clause-block
 returns-in-Some-clause-block c =

@@ -1,7 +1,7 @@
 use Rattle.std.proofs.Common.{rules, ◌≡◌, List, ℕ, Some, Ok, arith, subst, slice_index_or}
 use Rattle.stm_source.specs.CompiledBlock.{compiled_block}
-use Rattle.stm_commands.proofs.PreparedBlocks.{prepared_at}
-use Rattle.stm_commands.proofs.block_cache.block_at.Goals as goal
+use Rattle.stm_source.proofs.PreparedBlocks.{prepared_at}
+use Rattle.stm_source.proofs.block_cache.block_at.Goals as goal
 
 pub returns-then-same_text : goal.returns-then-same_text
 returns-then-same_text c = λ known h.

@@ -9,16 +9,16 @@ ghost use Rattle.stm_store.specs.Cells.{Covers};
 ghost use Rattle.stm_store.specs.Naming.{Named, named_uses};
 ghost use Rattle.stm_source.specs.CompiledBlock.{compiled_block};
 ghost use Rattle.stm_source.specs.OutOfMemory.{IsOutOfMemory};
-ghost use Rattle.stm_commands.specs.BlockCache.{IsBlockOf, ArePrepared};
-ghost use Rattle.stm_commands.specs.OpenInvariant.{NamesFollow};
+ghost use Rattle.stm_source.specs.BlockCache.{IsBlockOf, ArePrepared};
+ghost use Rattle.stm_source.specs.LaterNames.{NamesFollow};
 
+use crate::block::compile_shared;
+use crate::refusal::Refusal;
 use std::alloc::Global;
 use std::marker::Model;
 use std::snapshot::Snapshot;
 use stm_check::SharedBlock;
 use stm_parse::ParseFault;
-use stm_source::Refusal;
-use stm_source::block::compile_shared;
 use stm_store::Names;
 use stm_terms::NoMemory;
 
@@ -44,14 +44,14 @@ fn hash_of(text: &str) -> u64 {
 
 /// The first of the places that the block of a text may have, by its hash.
 fn first_way(hash: u64) -> usize
-    ensures { result < 1024 }
+    ensures { result < PLACES }
 {
     (hash >> 40) as usize % GROUPS * WAYS
 }
 
 /// Whether this hash is noted among those of its group.
 fn is_noted(hashes: &[u64], first: usize, hash: u64) -> bool
-    requires { first < 1024 }
+    requires { first < PLACES }
 {
     for place in first..first + WAYS {
         if place < hashes.len() && hashes[place] == hash {
@@ -63,7 +63,7 @@ fn is_noted(hashes: &[u64], first: usize, hash: u64) -> bool
 
 /// Notes a hash as the last of its group. The one that was noted longest ago goes.
 fn note(hashes: &mut [u64], first: usize, hash: u64)
-    requires { first < 1024 }
+    requires { first < PLACES }
 {
     let mut newer = hash;
     for place in first..first + WAYS {
@@ -78,7 +78,7 @@ fn note(hashes: &mut [u64], first: usize, hash: u64)
 /// Whether this hash is one of the last that were noted of its group; if not, it is noted. So a text that comes only once takes no place
 /// from one that comes again.
 fn comes_again(hashes: &mut [u64], first: usize, hash: u64) -> bool
-    requires { first < 1024 }
+    requires { first < PLACES }
 {
     if is_noted(hashes, first, hash) {
         return true;
@@ -133,7 +133,7 @@ fn kept_block<'a>(
     first: usize,
     text: &str,
 ) -> Option<&'a SharedBlock>
-    requires { first < 1024 }
+    requires { first < PLACES }
     ensures { (known : List Named) → ArePrepared known blocks.now
         → IfSome (option_copied result) (λ b. IsBlockOf known text.now b) }
 {
@@ -158,7 +158,7 @@ fn bytes_at(blocks: &[Option<SharedBlock>], place: usize) -> Option<usize> {
 
 /// The place for a block: a free one of its places, or else one by its hash, whose block goes.
 fn place_for(blocks: &[Option<SharedBlock>], first: usize, hash: u64) -> usize
-    requires { first < 1024 }
+    requires { first < PLACES }
 {
     for place in first..first + WAYS {
         if bytes_at(blocks, place).is_none() {
@@ -211,7 +211,7 @@ fn keep(
     block: &SharedBlock,
     again: bool,
 )
-    requires { first < 1024 }
+    requires { first < PLACES }
     ensures { (known : List Named) → ArePrepared known blocks.old
         → IsBlockOf known block.now.text block.now → ArePrepared known blocks.new }
 {
@@ -285,7 +285,7 @@ impl Drop for BlockCache {
 impl Model for BlockCache {
     ghost use Rattle.std.specs.Prelude.{List};
     ghost use Rattle.stm_store.specs.Naming.{Named};
-    ghost use Rattle.stm_commands.specs.BlockCache.{ArePrepared};
+    ghost use Rattle.stm_source.specs.BlockCache.{ArePrepared};
 
     ghost Value = { List Named };
 

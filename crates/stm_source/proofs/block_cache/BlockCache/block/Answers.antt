@@ -1,7 +1,7 @@
 use Rattle.std.proofs.Common.{refl, sym, subst}
-use Rattle.stm_commands.specs.BlockCache.{ArePrepared}
-use Rattle.stm_commands.proofs.PreparedBlocks.{prepared_now}
-use Rattle.stm_commands.proofs.block_cache.BlockCache.block.Goals as goal
+use Rattle.stm_source.specs.BlockCache.{ArePrepared}
+use Rattle.stm_source.proofs.PreparedBlocks.{prepared_now}
+use Rattle.stm_source.proofs.block_cache.BlockCache.block.Goals as goal
 
 pub prepared_block-requires : goal.prepared_block-requires
 prepared_block-requires c =
