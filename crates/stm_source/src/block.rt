@@ -1,13 +1,15 @@
 //! Blocks from their texts.
 
-ghost use Rattle.std.specs.Prelude.{◌≡◌, IfOk, List};
+ghost use Rattle.std.specs.Prelude.{◌≡◌, IfOk, List, Result};
 ghost use Rattle.stm_terms.specs.UnlessNoMemory.{AnswersExcept};
 ghost use Rattle.stm_terms.specs.declared.kinds.Ty.{Ty};
 ghost use Rattle.stm_terms.specs.declared.values.Value.{Value};
 ghost use Rattle.stm_store.specs.Cells.{Covers};
 ghost use Rattle.stm_store.specs.Naming.{named_uses};
-ghost use Rattle.stm_source.specs.CompiledBlock.{compiled_block, block_of_text};
+ghost use Rattle.stm_check.specs.TypedBlock.{Block};
+ghost use Rattle.stm_source.specs.CompiledBlock.{compiled_block, block_if_any, block_of_text};
 ghost use Rattle.stm_source.specs.OutOfMemory.{IsOutOfMemory};
+ghost use Rattle.stm_source.specs.declared.refusal.Refusal.{Refusal};
 
 use crate::refusal::Refusal;
 use std::alloc::Global;
@@ -41,15 +43,25 @@ pub fn compile_shared(alloc: Global, known: &Names, text: &str) -> Result<Shared
     }
 }
 
-/// The block of a text, which many may hold; none if the text is refused.
-pub fn block_of(alloc: Global, known: &Names, text: &str) -> Result<Option<SharedBlock>, NoMemory>
-    ensures { IfOk result (λ o. o ≡ block_of_text known.now text.now) }
+/// The block, or none if its text is refused.
+pub(crate) fn unless_refused(
+    block: Result<SharedBlock, Refusal>,
+) -> Result<Option<SharedBlock>, NoMemory>
+    ensures { (r : Result Block Refusal) → AnswersExcept IsOutOfMemory (λ b. b) block r
+        → IfOk result (λ o. o ≡ block_if_any r) }
 {
-    match compile_shared(alloc, known, text) {
+    match block {
         Ok(block) => Ok(Some(block)),
         Err(Refusal::Parsing(ParseFault::NoMemory)) => Err(NoMemory),
         Err(Refusal::Typing(TypeFault::NoMemory)) => Err(NoMemory),
         Err(Refusal::Declaring(DeclareError::NoMemory)) => Err(NoMemory),
         Err(_) => Ok(None),
     }
+}
+
+/// The block of a text, which many may hold; none if the text is refused.
+pub fn block_of(alloc: Global, known: &Names, text: &str) -> Result<Option<SharedBlock>, NoMemory>
+    ensures { IfOk result (λ o. o ≡ block_of_text known.now text.now) }
+{
+    unless_refused(compile_shared(alloc, known, text))
 }

@@ -7,12 +7,12 @@ ghost use Rattle.stm_terms.specs.declared.kinds.Ty.{Ty};
 ghost use Rattle.stm_terms.specs.declared.values.Value.{Value};
 ghost use Rattle.stm_store.specs.Cells.{Covers};
 ghost use Rattle.stm_store.specs.Naming.{Named, named_uses};
-ghost use Rattle.stm_source.specs.CompiledBlock.{compiled_block};
+ghost use Rattle.stm_source.specs.CompiledBlock.{compiled_block, block_of_text};
 ghost use Rattle.stm_source.specs.OutOfMemory.{IsOutOfMemory};
 ghost use Rattle.stm_source.specs.BlockCache.{IsBlockOf, ArePrepared};
 ghost use Rattle.stm_source.specs.LaterNames.{NamesFollow};
 
-use crate::block::compile_shared;
+use crate::block::{compile_shared, unless_refused};
 use crate::refusal::Refusal;
 use std::alloc::Global;
 use std::marker::Model;
@@ -307,6 +307,14 @@ impl BlockCache {
         })
     }
 
+    /// From now on these names are known, which come after those that were known before.
+    pub fn follow(&mut self, known: &Names)
+        requires { NamesFollow self.old known.now }
+        ensures { self.new ≡ known.now }
+    {
+        self.known = Snapshot::of(known);
+    }
+
     /// The block of a text, kept or new, over names that come after those that were known before. If its text comes again, it is kept from
     /// now on.
     pub fn block(
@@ -321,7 +329,7 @@ impl BlockCache {
             (compiled_block known.now text.now) }
         ensures covered { IfOk result (λ b. (cells : List (Ty × Value)) → Covers cells (named_uses known.now) → Covers cells b.uses) }
     {
-        self.known = Snapshot::of(known);
+        self.follow(known);
         prepared_block(
             alloc,
             known,
@@ -330,5 +338,19 @@ impl BlockCache {
             &mut self.hashes,
             &mut self.bytes,
         )
+    }
+
+    /// The same; none if the text is refused.
+    pub fn block_of(
+        &mut self,
+        alloc: Global,
+        known: &Names,
+        text: &str,
+    ) -> Result<Option<SharedBlock>, NoMemory>
+        requires { NamesFollow self.old known.now }
+        ensures known { self.new ≡ known.now }
+        ensures block { IfOk result (λ o. o ≡ block_of_text known.now text.now) }
+    {
+        unless_refused(self.block(alloc, known, text))
     }
 }
