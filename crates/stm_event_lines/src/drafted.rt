@@ -13,7 +13,7 @@ use std::alloc::Global;
 use stm_events::event::{Event, What};
 use stm_events::shared_verdict::SharedVerdict;
 use stm_events::tickets::Tickets;
-use stm_source::block_of;
+use stm_source::BlockCache;
 use stm_store::Names;
 use stm_terms::NoMemory;
 use stm_terms::lists::{News, Writes};
@@ -93,10 +93,13 @@ fn submitted(
     client: u32,
     ticket: u32,
     text: &str,
+    blocks: &mut BlockCache,
 ) -> Result<Option<Event>, NoMemory>
-    ensures { IfOk result (λ o. IfSome o (λ e. FitsNames known.now e)) }
+    requires { blocks.old ≡ known.now }
+    ensures known { blocks.new ≡ known.now }
+    ensures fits { IfOk result (λ o. IfSome o (λ e. FitsNames known.now e)) }
 {
-    match block_of(alloc, known, text)? {
+    match blocks.block_of(alloc, known, text)? {
         Some(block) => Ok(event_by(client, What::Submitted { ticket, block })),
         None => Ok(None),
     }
@@ -143,15 +146,22 @@ fn tickets_of(alloc: Global, numbers: Vec<u32>) -> Result<Tickets, NoMemory>
 }
 
 /// The event that a draft is of, if there may be one.
-fn event_of(alloc: Global, known: &Names, draft: Draft<'_>) -> Result<Option<Event>, NoMemory>
-    ensures { IfOk result (λ o. IfSome o (λ e. FitsNames known.now e)) }
+fn event_of(
+    alloc: Global,
+    known: &Names,
+    draft: Draft<'_>,
+    blocks: &mut BlockCache,
+) -> Result<Option<Event>, NoMemory>
+    requires { blocks.old ≡ known.now }
+    ensures known { blocks.new ≡ known.now }
+    ensures fits { IfOk result (λ o. IfSome o (λ e. FitsNames known.now e)) }
 {
     match draft {
         Draft::Submitted {
             block,
             client,
             ticket,
-        } => submitted(alloc, known, client, ticket, block),
+        } => submitted(alloc, known, client, ticket, block, blocks),
         Draft::Installed {
             client,
             ticket,
@@ -171,14 +181,21 @@ fn event_of(alloc: Global, known: &Names, draft: Draft<'_>) -> Result<Option<Eve
 }
 
 /// The event of which the line is the text, if a draft of it can be read. None says nothing of the line.
-pub fn drafted_event(alloc: Global, known: &Names, line: &[u8]) -> Result<Option<Event>, NoMemory>
+pub fn drafted_event(
+    alloc: Global,
+    known: &Names,
+    line: &[u8],
+    blocks: &mut BlockCache,
+) -> Result<Option<Event>, NoMemory>
+    requires { blocks.old ≡ known.now }
+    ensures known { blocks.new ≡ known.now }
     ensures line { IfOk result (λ o. IfSome o (λ e. event_line e ≡ line.now)) }
     ensures fits { IfOk result (λ o. IfSome o (λ e. FitsNames known.now e)) }
 {
     let Ok(draft) = from_slice::<Draft>(alloc, line) else {
         return Ok(None);
     };
-    let Some(event) = event_of(alloc, known, draft)? else {
+    let Some(event) = event_of(alloc, known, draft, blocks)? else {
         return Ok(None);
     };
     let again = event_text(alloc, &event)?;

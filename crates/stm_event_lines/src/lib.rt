@@ -2,7 +2,7 @@
 //!
 //! A line of an event is read in one pass as a draft, which is then compared with the text that would be written. What a reader has to
 //! believe: `specs/Lines` has the line of each event, `specs/CheckpointLines` those of a checkpoint, and `specs/Fits` what can stand in a
-//! line. The block of a text is that of `stm_source`.
+//! line. The block of a text is that of `stm_source`, which keeps those whose texts come again.
 #![tactic(auto)]
 
 mod build;

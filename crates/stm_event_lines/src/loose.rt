@@ -11,6 +11,7 @@ ghost use Rattle.stm_store.specs.declared.cell.Cell.{Cell as AnyCell};
 ghost use Rattle.stm_terms.specs.Limits.{most_refs};
 ghost use Rattle.stm_event_lines.specs.CheckpointFields.{cell_of as cell_meant, cell_parts, checkpoint_header_in};
 ghost use Rattle.stm_event_lines.specs.CheckpointLines.{IsCheckpointFormat, checkpoint_header_line, cell_line, waiting_line, FitsCell, FitsWaiting};
+ghost use Rattle.stm_event_lines.specs.Fields.{event_of as event_meant};
 ghost use Rattle.stm_event_lines.specs.Fits.{Is32Bit, FitsNames, FitsValue, FitsVariable};
 ghost use Rattle.stm_event_lines.specs.Lines.{IsFormat, declaring_format, event_line};
 ghost use Rattle.stm_event_lines.specs.Variables.{declared};
@@ -25,8 +26,18 @@ use crate::variable::Variable;
 use serde_json::Value as Json;
 use std::alloc::Global;
 use stm_events::event::Event;
+use stm_source::BlockCache;
 use stm_store::Names;
 use stm_terms::{NoMemory, is_name};
+
+/// The event that the value represents, if it does. No block is kept for another.
+fn only_event_of(alloc: Global, known: &Names, json: &Json) -> Result<Option<Event>, NoMemory>
+    ensures value { IfOk result (λ o. o ≡ event_meant known.now (view json.now)) }
+    ensures fits { IfOk result (λ o. IfSome o (λ e. FitsNames known.now e)) }
+{
+    let mut blocks = BlockCache::new(alloc, known)?;
+    event_of(alloc, known, json, &mut blocks)
+}
 
 /// The event that a line can be read as.
 pub fn loose_event(alloc: Global, known: &Names, line: &[u8]) -> Result<Option<Event>, NoMemory>
@@ -35,7 +46,7 @@ pub fn loose_event(alloc: Global, known: &Names, line: &[u8]) -> Result<Option<E
         → event_line d ≡ line.now → o ≡ Some d) }
 {
     match json_of(alloc, line) {
-        Ok(json) => event_of(alloc, known, &json),
+        Ok(json) => only_event_of(alloc, known, &json),
         Err(LineError::Bad) => Ok(None),
         Err(LineError::NoMemory) => Err(NoMemory),
     }

@@ -6,6 +6,7 @@ ghost use Rattle.serde_json.specs.View.{view};
 ghost use Rattle.stm_events.specs.declared.event.Event.{Event as AnyEvent};
 ghost use Rattle.stm_store.specs.Tables.{Declared};
 ghost use Rattle.stm_store.specs.Naming.{Named};
+ghost use Rattle.stm_source.specs.LaterNames.{NamesFollow};
 ghost use Rattle.stm_event_lines.specs.Fields.{event_of as event_meant, header_of as header_meant, what_of as what_meant, if_label as if_label_meant, labelled_of, what_in as what_in_meant, if_named as if_named_meant, declared_event_of, client_field, submitted_of, installed_of, finished_of, declared_from_json as variable_meant, type_in as type_meant, text_field};
 ghost use Rattle.stm_terms.specs.Limits.{most_refs, max_clients};
 ghost use Rattle.stm_event_lines.specs.Fits.{Is32Bit, FitsNames, WhatFitsNames, FitsValue, FitsVariable};
@@ -26,7 +27,7 @@ use stm_events::label::is_label;
 use stm_events::shared_name::SharedName;
 use stm_events::shared_verdict::SharedVerdict;
 use stm_events::tickets::Tickets;
-use stm_source::block_of;
+use stm_source::BlockCache;
 use stm_store::Names;
 use stm_terms::kinds::Ty;
 use stm_terms::{NoMemory, is_name};
@@ -78,14 +79,17 @@ fn submitted(
     known: &Names,
     json: &Json,
     ticket: u32,
+    blocks: &mut BlockCache,
 ) -> Result<Option<What>, NoMemory>
+    requires { blocks.old ≡ known.now }
+    ensures known { blocks.new ≡ known.now }
     ensures value { IfOk result (λ o. o ≡ submitted_of known.now (view json.now) ticket) }
     ensures fits { IfOk result (λ o. IfSome o (λ w. WhatFitsNames known.now w)) }
 {
     let Some(text) = text_at(json, "block") else {
         return Ok(None);
     };
-    match block_of(alloc, known, text)? {
+    match blocks.block_of(alloc, known, text)? {
         Some(block) => Ok(Some(What::Submitted { ticket, block })),
         None => Ok(None),
     }
@@ -156,12 +160,15 @@ fn what_of(
     json: &Json,
     kind: &str,
     ticket: u32,
+    blocks: &mut BlockCache,
 ) -> Result<Option<What>, NoMemory>
+    requires { blocks.old ≡ known.now }
+    ensures known { blocks.new ≡ known.now }
     ensures value { IfOk result (λ o. o ≡ what_meant known.now (view json.now) kind.now ticket) }
     ensures fits { IfOk result (λ o. IfSome o (λ w. WhatFitsNames known.now w)) }
 {
     if kind == "submitted" {
-        submitted(alloc, known, json, ticket)
+        submitted(alloc, known, json, ticket, blocks)
     } else if kind == "installed" {
         installed(alloc, json, ticket)
     } else if kind == "finished" {
@@ -203,7 +210,15 @@ fn declaration(alloc: Global, json: &Json) -> Result<Option<What>, NoMemory>
 }
 
 /// What happened: a declaration has no ticket.
-fn what_in(alloc: Global, known: &Names, json: &Json, kind: &str) -> Result<Option<What>, NoMemory>
+fn what_in(
+    alloc: Global,
+    known: &Names,
+    json: &Json,
+    kind: &str,
+    blocks: &mut BlockCache,
+) -> Result<Option<What>, NoMemory>
+    requires { blocks.old ≡ known.now }
+    ensures known { blocks.new ≡ known.now }
     ensures value { IfOk result (λ o. o ≡ what_in_meant known.now (view json.now) kind.now) }
     ensures fits { IfOk result (λ o. IfSome o (λ w. WhatFitsNames known.now w)) }
 {
@@ -213,11 +228,18 @@ fn what_in(alloc: Global, known: &Names, json: &Json, kind: &str) -> Result<Opti
     let Some(ticket) = number_at(json, "ticket") else {
         return Ok(None);
     };
-    what_of(alloc, known, json, kind, ticket)
+    what_of(alloc, known, json, kind, ticket, blocks)
 }
 
 /// The event that the value represents, if it does.
-pub fn event_of(alloc: Global, known: &Names, json: &Json) -> Result<Option<Event>, NoMemory>
+pub fn event_of(
+    alloc: Global,
+    known: &Names,
+    json: &Json,
+    blocks: &mut BlockCache,
+) -> Result<Option<Event>, NoMemory>
+    requires { blocks.old ≡ known.now }
+    ensures known { blocks.new ≡ known.now }
     ensures value { IfOk result (λ o. o ≡ event_meant known.now (view json.now)) }
     ensures fits { IfOk result (λ o. IfSome o (λ e. FitsNames known.now e)) }
 {
@@ -227,20 +249,28 @@ pub fn event_of(alloc: Global, known: &Names, json: &Json) -> Result<Option<Even
     let Some(client) = client_at(json) else {
         return Ok(None);
     };
-    match what_in(alloc, known, json, kind)? {
+    match what_in(alloc, known, json, kind, blocks)? {
         Some(what) => Ok(Some(Event { client, what })),
         None => Ok(None),
     }
 }
 
 /// The event that the value represents, if the line is that event's.
-fn event_in(alloc: Global, known: &Names, json: &Json, line: &[u8]) -> Result<Event, LineError>
+fn event_in(
+    alloc: Global,
+    known: &Names,
+    json: &Json,
+    line: &[u8],
+    blocks: &mut BlockCache,
+) -> Result<Event, LineError>
+    requires { blocks.old ≡ known.now }
+    ensures known { blocks.new ≡ known.now }
     ensures ok { IfOk result (λ e. event_line e ≡ line.now) }
     ensures fits { IfOk result (λ e. FitsNames known.now e) }
     ensures bad { IsErrOf result LineError.Bad → (e : AnyEvent)
         → event_meant known.now (view json.now) ≡ Some e → event_line e ≢ line.now }
 {
-    let Some(event) = event_of(alloc, known, json)? else {
+    let Some(event) = event_of(alloc, known, json, blocks)? else {
         return Err(LineError::Bad);
     };
     let again = event_text(alloc, &event)?;
@@ -252,28 +282,44 @@ fn event_in(alloc: Global, known: &Names, json: &Json, line: &[u8]) -> Result<Ev
 }
 
 /// Reads a line as `read_event` does, by its JSON value.
-fn read_by_value(alloc: Global, known: &Names, line: &[u8]) -> Result<Event, LineError>
+fn read_by_value(
+    alloc: Global,
+    known: &Names,
+    line: &[u8],
+    blocks: &mut BlockCache,
+) -> Result<Event, LineError>
+    requires { blocks.old ≡ known.now }
+    ensures known { blocks.new ≡ known.now }
     ensures ok { IfOk result (λ e. event_line e ≡ line.now) }
     ensures fits { IfOk result (λ e. FitsNames known.now e) }
     ensures bad { IsErrOf result LineError.Bad → (e : AnyEvent) → FitsNames known.now e
         → event_line e ≢ line.now }
 {
     match json_of(alloc, line) {
-        Ok(json) => event_in(alloc, known, &json, line),
+        Ok(json) => event_in(alloc, known, &json, line, blocks),
         Err(e) => Err(e),
     }
 }
 
-/// Reads a line, exactly where it is the text of an event that fits the names.
-pub fn read_event(alloc: Global, known: &Names, line: &[u8]) -> Result<Event, LineError>
+/// Reads a line, exactly where it is the text of an event that fits the names. A block whose text comes again is shared. The names come
+/// after those that were known before.
+pub fn read_event(
+    alloc: Global,
+    known: &Names,
+    line: &[u8],
+    blocks: &mut BlockCache,
+) -> Result<Event, LineError>
+    requires { NamesFollow blocks.old known.now }
+    ensures known { blocks.new ≡ known.now }
     ensures ok { IfOk result (λ e. event_line e ≡ line.now) }
     ensures fits { IfOk result (λ e. FitsNames known.now e) }
     ensures bad { IsErrOf result LineError.Bad → (e : AnyEvent) → FitsNames known.now e
         → event_line e ≢ line.now }
 {
-    match drafted_event(alloc, known, line)? {
+    blocks.follow(known);
+    match drafted_event(alloc, known, line, blocks)? {
         Some(event) => Ok(event),
-        None => read_by_value(alloc, known, line),
+        None => read_by_value(alloc, known, line, blocks),
     }
 }
 

@@ -1,11 +1,13 @@
 -- What an allowed event says of the state before it: no question is refused, and its fields are the answers.
-use Rattle.std.proofs.Common.{◌≡◌, ◌≢◌, ℕ, ◌+◌, ◌<◌, ◌≤◌, false, List, [], ◌∷◌, ◌++◌, length, Option, Some, None, Result, Ok, Err, OnOk, is_some, refl, sym, ap, ◌∙◌, subst, arith, length-append}
+use Rattle.std.proofs.Common.{◌≡◌, ◌≢◌, ℕ, ◌+◌, ◌<◌, ◌≤◌, false, List, [], ◌∷◌, ◌++◌, length, Option, Some, None, Result, Ok, Err, OnOk, IfOk, is_some, refl, sym, ap, ◌∙◌, subst, arith, length-append}
 use Rattle.std.specs.Prelude.{IsSomeAnd, IfSome, option_map}
 use Rattle.stm_terms.specs.declared.kinds.Ty.{Ty}
 use Rattle.stm_terms.specs.declared.values.Value.{Value}
 use Rattle.stm_terms.specs.declared.verdicts.Verdict.{Verdict}
 use Rattle.stm_terms.specs.UnlessNoMemory.{RefusedAs}
 use Rattle.stm_store.specs.Cells.{plains}
+use Rattle.stm_store.specs.Naming.{Named}
+use Rattle.stm_store.specs.Tables.{Declared}
 use Rattle.stm_check.specs.TypedBlock.{Block}
 use Rattle.stm_eval.specs.declared.message.Evaluated.{Evaluated}
 use Rattle.stm_eval.specs.EvaluatedFields.{message_ticket, message_block, message_reads, message_verdict}
@@ -20,13 +22,17 @@ use Rattle.stm_terms.specs.Limits.{max_events, max_clients}
 use Rattle.stm_events.specs.States.{IsLegalFrom}
 use Rattle.stm_events.proofs.Folds.{legal_split, state-push, legal-push}
 use Rattle.stm_events.proofs.Rising.{next_le}
-use Rattle.stm_machine.specs.Checkpoints.{max_next}
+use Rattle.stm_machine.specs.Checkpoints.{CheckpointView, IsCheckpoint, checkpoint_state, max_next}
 use Rattle.stm_machine.specs.JobsHandedOut.{IsPresent, block_at}
 use Rattle.stm_machine.specs.Machine.{Parts, IsAt, HasTicketLeft, MovesBy, event}
 use Rattle.stm_machine.specs.Plans.{IsPlan}
+use Rattle.stm_source.specs.LaterNames.{NamesFollow}
+use Rattle.stm_source.proofs.LaterNames.{equal_names, names_trans}
+use Rattle.stm_event_lines.specs.Fits.{FitsNames}
+use Rattle.stm_event_lines.proofs.LaterNames.{names_after_event}
 use Rattle.stm_history.specs.declared.replayer.Replayer.{Replayer}
 use Rattle.stm_history.specs.Following.{Follows}
-use Rattle.stm_history_text.specs.Starts.{Start, first_state, state_after_start}
+use Rattle.stm_history_text.specs.Starts.{Start, first_state, names_after, state_after_start}
 
 -- ---- a history with one event more
 module _ (start : Start) (history : List Event) (client : ℕ) (what : What) (a : IsLegalFrom (first_state start) (history ++ event client what ∷ [])) where
@@ -52,18 +58,55 @@ legal_next start history client what legal room low a = record {
 pub ticket_left : (start : Start) (history : List Event) → (first_state start).next ≤ max_next → length history < max_events → HasTicketLeft (state_after_start start history)
 ticket_left start history tickets room = let low = next_le (first_state start) history in omega arith
 
+-- the blocks that were kept were checked over some of the names after one event more
+blocks_next : (start : Start) (history : List Event) (e : Event) (old new : List Named) → NamesFollow old (names_after start history) → new ≡ old → NamesFollow new (names_after start (history ++ e ∷ []))
+blocks_next start history e old new f same =
+    let s = state_after_start start history in
+    let before : NamesFollow new s.names = subst (λ (ns : List Named). NamesFollow ns s.names) (sym same) f in
+    subst (λ (t : Slow). NamesFollow new t.names) (sym (state-push (first_state start) history e)) (names_trans new s.names (after s e.what).names before (names_after_event s e.what))
+
 -- what went through a history went on by an allowed event
 pub follows_next : (start : Start) (history : List Event) (e : Event) (old new : Replayer) → Follows start history old → length history < max_events → e.client < max_clients
     → Allows (state_after_start start history) e.what → IsAt new.machine (after (state_after_start start history) e.what) → new.events ≡ old.events + 1 → IfSome new.copy (λ cells. cells ≡ plains new.machine.store)
-    → ((es : List Event) → IfSome old.kept (λ events. events.items ≡ es) → IfSome new.kept (λ events. events.items ≡ es ++ e ∷ [])) → Follows start (history ++ e ∷ []) new
-follows_next start history e old new f room low a at counted copied kept = record {
+    → ((es : List Event) → IfSome old.kept (λ events. events.items ≡ es) → IfSome new.kept (λ events. events.items ≡ es ++ e ∷ [])) → new.blocks ≡ old.blocks → Follows start (history ++ e ∷ []) new
+follows_next start history e old new f room low a at counted copied kept blocks = record {
   legal = legal_next start history e.client e.what f.legal room low a;
   at = subst (IsAt new.machine) (sym (state-push (first_state start) history e)) at;
   tickets = f.tickets;
   counted = (let before = f.counted in let longer = length-append history (e ∷ []) in omega arith);
   copied = copied;
   kept = kept history f.kept;
+  blocks = blocks_next start history e old.blocks new.blocks f.blocks blocks;
 }
+
+-- the same if a line was read over the names after the history
+pub follows_read : (start : Start) (history : List Event) (r : Replayer) (blocks : List Named) → Follows start history r → blocks ≡ names_after start history → Follows start history (record r { blocks = blocks })
+follows_read start history r blocks f same = record {
+  legal = f.legal;
+  at = f.at;
+  tickets = f.tickets;
+  counted = f.counted;
+  copied = f.copied;
+  kept = f.kept;
+  blocks = equal_names blocks (names_after start history) same;
+}
+
+-- what begins with a machine at the start of a history goes through that history
+pub begun_at : {E : Type 0} (r : Result Replayer E) (start : Start) (m : Parts) → IfOk r (λ x. (S : Start) → IsAt m (first_state S) → (first_state S).next ≤ max_next → Follows S [] x)
+    → IsAt m (first_state start) → (first_state start).next ≤ max_next → IfOk r (λ x. Follows start [] x)
+begun_at (Ok x) start m h at low = h start at low
+begun_at (Err e) start m h at low = tt
+
+pub begun_from : {E : Type 0} (r : Result Replayer E) (c : CheckpointView) (m : Parts) → IfOk r (λ x. (S : Start) → IsAt m (first_state S) → (first_state S).next ≤ max_next → Follows S [] x) → IsAt m (checkpoint_state c) → IsCheckpoint c
+    → IfOk r (λ x. (F : ℕ) (T : List Declared) → Follows (record { format = F; table = T; checkpoint = Some c }) [] x)
+begun_from (Ok x) c m h at is = λ F T. h (record { format = F; table = T; checkpoint = Some c }) at is.tickets
+begun_from (Err e) c m h at is = tt
+
+-- an event that was read fits the names after the history
+pub fits_after : {E : Type 0} (r : Result Event E) (old : Replayer) (names : List Named) → ((start : Start) (history : List Event) → Follows start history old → names ≡ names_after start history)
+    → IfOk r (λ e. FitsNames names e) → IfOk r (λ e. (start : Start) (history : List Event) → Follows start history old → FitsNames (names_after start history) e)
+fits_after (Ok e) old names known f = λ start history h. subst (λ (ns : List Named). FitsNames ns e) (known start history h) f
+fits_after (Err x) old names known f = tt
 
 -- ---- refusals
 -- a call that isn't refused lacked memory only

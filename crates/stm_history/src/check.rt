@@ -27,7 +27,7 @@ use std::mem;
 use std::sync::ledger::{Blank, Ledger};
 use stm_event_lines::checkpoint::CheckpointHeader;
 use stm_event_lines::formats::fits_format;
-use stm_event_lines::read::{LineError, read_event, read_header, read_variable};
+use stm_event_lines::read::{LineError, read_header, read_variable};
 use stm_event_lines::variable::Variable;
 use stm_events::event::Event;
 use stm_lines::calls::Calls;
@@ -240,7 +240,7 @@ fn take_event_line(
     ensures keeps { OnOk result (is_some replayer.new.kept ≡ is_some replayer.old.kept) }
 {
     let number = line_number(table, checkpoint, replayer);
-    match read_event(alloc, replayer.names(), line) {
+    match replayer.read(alloc, line) {
         Ok(event) => take_event(format, replayer, &event, number),
         Err(LineError::Bad) => Err(HistoryFault::BadLine(number)),
         Err(LineError::NoMemory) => Err(HistoryFault::NoMemory),

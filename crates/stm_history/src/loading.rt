@@ -89,12 +89,7 @@ fn loaded_of(
     ensures events { (H : List AnyEvent) → IfSome replayer.kept (λ events. events.items ≡ H)
         → result.events.items ≡ H }
 {
-    let Replayer {
-        machine,
-        events: _,
-        copy: _,
-        kept,
-    } = replayer;
+    let (machine, kept) = replayer.into_parts();
     match kept {
         Some(events) => Loaded {
             format,

@@ -365,6 +365,7 @@ impl Replayer {
         ensures copied { OnOk result (self.new.copy ≡ Some (plains self.old.machine.store)) }
         ensures events { self.new.events ≡ self.old.events }
         ensures kept { self.new.kept ≡ self.old.kept }
+        ensures blocks { self.new.blocks ≡ self.old.blocks }
     {
         keep_copy(&self.machine, &mut self.copy)?;
         match &self.copy {
@@ -384,6 +385,7 @@ impl Replayer {
             (IfSome self.new.copy (λ cells. cells ≡ plains self.new.machine.store)) }
         ensures events { self.new.events ≡ self.old.events }
         ensures kept { self.new.kept ≡ self.old.kept }
+        ensures blocks { self.new.blocks ≡ self.old.blocks }
     {
         match what {
             What::Submitted { ticket, block } => submitted(&mut self.machine, *ticket, block),

@@ -97,7 +97,7 @@ fn same_text(one: &str, other: &str) -> bool
 fn no_blocks(alloc: Global) -> Result<Vec<Option<SharedBlock>>, NoMemory>
     ensures { IfOk result (λ made. (known : List Named) → ArePrepared known made.items) }
 {
-    let mut made = Vec::new(alloc);
+    let mut made = Vec::with_capacity(alloc, PLACES)?;
     for _place in 0..PLACES {
         made.push(None)?;
     }

@@ -26,6 +26,7 @@ returns-in_ok-keep_event-in-Ok-clause-done c = λ S H h.
     let room : length H < max_events = (let few = c.if-self-ge-MAX_EVENTS.false in grind (arith, common_steps)) in
     follows_next S H c.args.event.now c.args.self.now _ h room low moved.0 moved.1 (ap (λ (n : ℕ). n + 1) c.in-Ok.ensures.events) c.in-Ok.ensures.copied
     (λ es k. c.in_ok-keep_event-in-Ok.ensures.kept es (subst (λ (o : Option (Vec Event)). IfSome o (λ events. events.items ≡ es)) (sym c.in-Ok.ensures.kept) k))
+    c.in-Ok.ensures.blocks
 
 pub act-requires-clause-at : goal.act-requires-clause-at
 act-requires-clause-at c =
