@@ -346,7 +346,7 @@ desks path =
       missed `is` [At 0 2 "throws" "expect y"]
       -- an exception ends the threads
       broken <- newEmptyMVar
-      thread <- forkIO (try (runClients vars [waits]) >>= putMVar broken)
+      thread <- mask_ (forkIOWithUnmask (\unmask -> try (unmask (runClients vars [waits])) >>= putMVar broken))
       yield >> killThread thread
       either fromException (const Nothing) <$> takeMVar broken >>= (`is` Just ThreadKilled)
       throws (newVars [declaration slot]) >>= (`is` Undeclared "x")
