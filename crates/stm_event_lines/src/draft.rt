@@ -1,12 +1,14 @@
-//! Lines read in one pass, without a JSON value: events as their own lines have them, with each key in its place.
+//! Lines of events, read in one pass from the front as they are written, each key in its place.
 //!
-//! What is read of any other line is no draft. A draft says nothing until the text of its event is compared with the line.
+//! What is read of any other line is no draft, and neither is an event that makes variables, declares one or gives a label. A draft says
+//! nothing until the text of its event is compared with the line, so these functions need no clauses.
 
-use serde::{Deserialize, Deserializer, Format, Kind, Name};
+use memchr::memchr;
 use std::alloc::Global;
-use stm_terms::values::Value;
+use stm_parse::bytes::{number_len, number_of};
+use stm_terms::values::{Ref, Value};
 
-/// What a commit wrote and gave, or that a block waits.
+/// What a commit wrote and returned, or that a block waits.
 #[derive(Drop)]
 pub enum DraftVerdict {
     Commits {
@@ -36,244 +38,197 @@ pub enum Draft<'a> {
         ticket: u32,
         verdict: DraftVerdict,
     },
+    Cancelled {
+        client: u32,
+        ticket: u32,
+    },
 }
 
-/// Takes this key, which must be the next.
-#[inline(always)]
-fn key<F: Format>(from: &mut Deserializer<'_, '_, F>, name: &str) -> Result<(), F::Error> {
-    match from.next_key(&[Name::exact(name)])? {
-        Some(0) => Ok(()),
-        _ => Err(from.invalid()),
+/// A number without a sign, and the bytes after it.
+fn natural(bytes: &[u8]) -> Option<(u64, &[u8])> {
+    let (digits, rest) = bytes.split_at_checked(number_len(bytes))?;
+    if digits.is_empty() {
+        return None;
     }
+    Some((number_of(digits)?, rest))
 }
 
-/// Takes the end of an object.
-#[inline(always)]
-fn end<F: Format>(from: &mut Deserializer<'_, '_, F>) -> Result<(), F::Error> {
-    match from.next_key(&[])? {
-        None => Ok(()),
-        Some(_) => Err(from.invalid()),
-    }
-}
-
-#[inline(always)]
-fn number<F: Format>(from: &mut Deserializer<'_, '_, F>) -> Result<u32, F::Error> {
-    let number = from.u64()?;
+fn number(bytes: &[u8]) -> Option<(u32, &[u8])> {
+    let (number, rest) = natural(bytes)?;
     if number <= u32::MAX as u64 {
-        Ok(number as u32)
+        Some((number as u32, rest))
     } else {
-        Err(from.invalid())
+        None
     }
 }
 
-#[inline(always)]
-fn number_at<F: Format>(from: &mut Deserializer<'_, '_, F>, name: &str) -> Result<u32, F::Error> {
-    key(from, name)?;
-    number(from)
-}
-
-fn value<F: Format>(from: &mut Deserializer<'_, '_, F>) -> Result<Value, F::Error> {
-    match from.peek()? {
-        Kind::Unsigned => Ok(Value::Int(from.i64()?)),
-        Kind::Signed => Ok(Value::Int(from.i64()?)),
-        Kind::Bool => Ok(Value::Bool(from.bool()?)),
-        Kind::Unit => {
-            from.take_unit()?;
-            Ok(Value::Unit)
-        }
-        _ => Err(from.invalid()),
-    }
-}
-
-fn write<F: Format>(from: &mut Deserializer<'_, '_, F>) -> Result<(u32, Value), F::Error> {
-    from.begin_seq()?;
-    from.expect_item()?;
-    let id = number(from)?;
-    from.expect_item()?;
-    let written = value(from)?;
-    from.expect_end()?;
-    Ok((id, written))
-}
-
-/// Adds the writes of a list to those that are there.
-fn take_writes<F: Format>(
-    from: &mut Deserializer<'_, '_, F>,
-    writes: &mut Vec<(u32, Value)>,
-) -> Result<(), F::Error> {
-    from.begin_seq()?;
-    for _ in 0..u64::MAX {
-        if !from.next_item()? {
-            return Ok(());
-        }
-        let one = write(from)?;
-        if writes.push(one).is_err() {
-            return Err(from.no_memory());
-        }
-    }
-    Err(from.invalid())
-}
-
-/// Adds the numbers of a list to those that are there.
-fn take_numbers<F: Format>(
-    from: &mut Deserializer<'_, '_, F>,
-    numbers: &mut Vec<u32>,
-) -> Result<(), F::Error> {
-    from.begin_seq()?;
-    for _ in 0..u64::MAX {
-        if !from.next_item()? {
-            return Ok(());
-        }
-        let one = number(from)?;
-        if numbers.push(one).is_err() {
-            return Err(from.no_memory());
-        }
-    }
-    Err(from.invalid())
-}
-
-/// Takes a list that must be empty.
-fn take_none<F: Format>(from: &mut Deserializer<'_, '_, F>) -> Result<(), F::Error> {
-    from.begin_seq()?;
-    if from.next_item()? {
-        Err(from.invalid())
+fn integer(bytes: &[u8]) -> Option<(Value, &[u8])> {
+    let (number, rest) = natural(bytes)?;
+    if number <= i64::MAX as u64 {
+        Some((Value::Int(number as i64), rest))
     } else {
-        Ok(())
+        None
     }
 }
 
-/// Takes what a commit that made no variable gave, and adds its writes to those that are there.
-fn take_changes<F: Format>(
-    from: &mut Deserializer<'_, '_, F>,
-    writes: &mut Vec<(u32, Value)>,
-) -> Result<Value, F::Error> {
-    from.begin_map()?;
-    key(from, "commits")?;
-    from.begin_map()?;
-    key(from, "news")?;
-    take_none(from)?;
-    key(from, "result")?;
-    let given = value(from)?;
-    key(from, "writes")?;
-    take_writes(from, writes)?;
-    end(from)?;
-    end(from)?;
-    Ok(given)
+fn negative(bytes: &[u8]) -> Option<(Value, &[u8])> {
+    let (number, rest) = natural(bytes)?;
+    if number <= i64::MAX as u64 {
+        Some((Value::Int(-(number as i64)), rest))
+    } else {
+        None
+    }
 }
 
-fn verdict<F: Format>(
-    alloc: Global,
-    from: &mut Deserializer<'_, '_, F>,
-) -> Result<DraftVerdict, F::Error> {
-    match from.peek()? {
-        Kind::Str => {
-            from.variant(&[])?;
-            Ok(DraftVerdict::Blocks)
+/// A reference to a variable, after its number's key.
+fn reference(bytes: &[u8]) -> Option<(Value, &[u8])> {
+    let (id, rest) = number(bytes)?;
+    Some((Value::Var(Ref::Old(id)), rest.strip_prefix(b"}")?))
+}
+
+fn value(bytes: &[u8]) -> Option<(Value, &[u8])> {
+    match bytes.first()? {
+        b'n' => Some((Value::Unit, bytes.strip_prefix(b"null")?)),
+        b't' => Some((Value::Bool(true), bytes.strip_prefix(b"true")?)),
+        b'f' => Some((Value::Bool(false), bytes.strip_prefix(b"false")?)),
+        b'-' => negative(bytes.strip_prefix(b"-")?),
+        b'{' => reference(bytes.strip_prefix(b"{\"old\":")?),
+        _ => integer(bytes),
+    }
+}
+
+fn write(bytes: &[u8]) -> Option<((u32, Value), &[u8])> {
+    let (id, rest) = number(bytes.strip_prefix(b"[")?)?;
+    let (written, rest) = value(rest.strip_prefix(b",")?)?;
+    Some(((id, written), rest.strip_prefix(b"]")?))
+}
+
+/// Adds the writes of a list, from after its bracket on, to those that are there. Returns the bytes after the list.
+fn take_writes<'a>(bytes: &'a [u8], writes: &mut Vec<(u32, Value)>) -> Option<&'a [u8]> {
+    if let Some(rest) = bytes.strip_prefix(b"]") {
+        return Some(rest);
+    }
+    let mut rest = bytes;
+    for _ in 0..bytes.len() {
+        let (one, after) = write(rest)?;
+        writes.push(one).ok()?;
+        match after.split_first()? {
+            (b',', more) => rest = more,
+            (b']', more) => return Some(more),
+            _ => return None,
         }
-        Kind::Map => {
+    }
+    None
+}
+
+/// Adds the numbers of a list, from after its bracket on, to those that are there. Returns the bytes after the list.
+fn take_numbers<'a>(bytes: &'a [u8], numbers: &mut Vec<u32>) -> Option<&'a [u8]> {
+    if let Some(rest) = bytes.strip_prefix(b"]") {
+        return Some(rest);
+    }
+    let mut rest = bytes;
+    for _ in 0..bytes.len() {
+        let (one, after) = number(rest)?;
+        numbers.push(one).ok()?;
+        match after.split_first()? {
+            (b',', more) => rest = more,
+            (b']', more) => return Some(more),
+            _ => return None,
+        }
+    }
+    None
+}
+
+/// Takes a commit that made no variable, up to the end of the line, and adds its writes to those that are there. Returns its result.
+fn take_commit(bytes: &[u8], writes: &mut Vec<(u32, Value)>) -> Option<Value> {
+    let (result, rest) = value(bytes.strip_prefix(b"{\"commits\":{\"news\":[],\"result\":")?)?;
+    let rest = take_writes(rest.strip_prefix(b",\"writes\":[")?, writes)?;
+    match rest {
+        b"}}}" => Some(result),
+        _ => None,
+    }
+}
+
+/// A verdict at the end of a line.
+fn last_verdict(alloc: Global, bytes: &[u8]) -> Option<DraftVerdict> {
+    let bytes = bytes.strip_prefix(b",\"verdict\":")?;
+    match bytes {
+        b"\"blocks\"}" => Some(DraftVerdict::Blocks),
+        _ => {
             let mut writes = Vec::new(alloc);
-            let result = take_changes(from, &mut writes)?;
-            Ok(DraftVerdict::Commits { writes, result })
+            let result = take_commit(bytes, &mut writes)?;
+            Some(DraftVerdict::Commits { writes, result })
         }
-        _ => Err(from.invalid()),
     }
 }
 
-/// After the text of a block.
-fn submitted<'de, F: Format>(
-    block: &'de str,
-    from: &mut Deserializer<'de, '_, F>,
-) -> Result<Draft<'de>, F::Error> {
-    let client = number_at(from, "client")?;
-    key(from, "event")?;
-    from.variant(&[])?;
-    let ticket = number_at(from, "ticket")?;
-    end(from)?;
-    Ok(Draft::Submitted {
-        block,
+/// After the quotation mark before the text of a block.
+fn submitted(bytes: &[u8]) -> Option<Draft<'_>> {
+    let (text, rest) = bytes.split_at_checked(memchr(b'"', bytes)?)?;
+    let (client, rest) = number(rest.strip_prefix(b"\",\"client\":")?)?;
+    let (ticket, rest) = number(rest.strip_prefix(b",\"event\":\"submitted\",\"ticket\":")?)?;
+    match rest {
+        b"}" => Some(Draft::Submitted {
+            block: str::from_utf8(text).ok()?,
+            client,
+            ticket,
+        }),
+        _ => None,
+    }
+}
+
+/// After the kind of the event and the key of its ticket.
+fn installed<'a>(alloc: Global, client: u32, bytes: &[u8]) -> Option<Draft<'a>> {
+    let (ticket, rest) = number(bytes)?;
+    Some(Draft::Installed {
         client,
         ticket,
+        verdict: last_verdict(alloc, rest)?,
     })
 }
 
-/// After the kind of the event.
-fn installed<'de, F: Format>(
-    alloc: Global,
-    client: u32,
-    from: &mut Deserializer<'de, '_, F>,
-) -> Result<Draft<'de>, F::Error> {
-    let ticket = number_at(from, "ticket")?;
-    key(from, "verdict")?;
-    let verdict = verdict(alloc, from)?;
-    end(from)?;
-    Ok(Draft::Installed {
-        client,
-        ticket,
-        verdict,
-    })
-}
-
-/// After the kind of the event.
-fn finished<'de, F: Format>(
-    alloc: Global,
-    client: u32,
-    from: &mut Deserializer<'de, '_, F>,
-) -> Result<Draft<'de>, F::Error> {
-    let first_new = number_at(from, "first_new")?;
+/// After the kind of the event and the key of the first new variable's number.
+fn finished<'a>(alloc: Global, client: u32, bytes: &[u8]) -> Option<Draft<'a>> {
+    let (first_new, rest) = number(bytes)?;
     let mut stale = Vec::new(alloc);
-    let (ticket, verdict) = stale_and_verdict(alloc, from, &mut stale)?;
-    Ok(Draft::Finished {
+    let rest = take_numbers(rest.strip_prefix(b",\"stale\":[")?, &mut stale)?;
+    let (ticket, rest) = number(rest.strip_prefix(b",\"ticket\":")?)?;
+    Some(Draft::Finished {
         client,
         first_new,
         stale,
         ticket,
-        verdict,
+        verdict: last_verdict(alloc, rest)?,
     })
 }
 
-fn stale_and_verdict<F: Format>(
-    alloc: Global,
-    from: &mut Deserializer<'_, '_, F>,
-    stale: &mut Vec<u32>,
-) -> Result<(u32, DraftVerdict), F::Error> {
-    key(from, "stale")?;
-    take_numbers(from, stale)?;
-    let ticket = number_at(from, "ticket")?;
-    key(from, "verdict")?;
-    let verdict = verdict(alloc, from)?;
-    end(from)?;
-    Ok((ticket, verdict))
-}
-
-/// After the client.
-fn verdict_event<'de, F: Format>(
-    alloc: Global,
-    client: u32,
-    from: &mut Deserializer<'de, '_, F>,
-) -> Result<Draft<'de>, F::Error> {
-    key(from, "event")?;
-    match from.variant(&[Name::exact("installed"), Name::exact("finished")])? {
-        0 => installed(alloc, client, from),
-        1 => finished(alloc, client, from),
-        _ => Err(from.invalid()),
+/// After the kind of the event and the key of its ticket.
+fn cancelled<'a>(client: u32, bytes: &[u8]) -> Option<Draft<'a>> {
+    let (ticket, rest) = number(bytes)?;
+    match rest {
+        b"}" => Some(Draft::Cancelled { client, ticket }),
+        _ => None,
     }
 }
 
-impl<'de> Deserialize<'de> for Draft<'de> {
-    fn deserialize<F: Format>(
-        alloc: Global,
-        from: &mut Deserializer<'de, '_, F>,
-    ) -> Result<Draft<'de>, F::Error> {
-        from.begin_map()?;
-        match from.next_key(&[Name::exact("client"), Name::exact("block")])? {
-            Some(0) => {
-                let client = number(from)?;
-                verdict_event(alloc, client, from)
-            }
-            Some(1) => {
-                let block = from.borrowed_str()?;
-                submitted(block, from)
-            }
-            _ => Err(from.invalid()),
-        }
+/// After the key of the client.
+fn by_client<'a>(alloc: Global, bytes: &[u8]) -> Option<Draft<'a>> {
+    let (client, rest) = number(bytes)?;
+    let rest = rest.strip_prefix(b",\"event\":\"")?;
+    if let Some(rest) = rest.strip_prefix(b"installed\",\"ticket\":") {
+        installed(alloc, client, rest)
+    } else if let Some(rest) = rest.strip_prefix(b"finished\",\"first_new\":") {
+        finished(alloc, client, rest)
+    } else {
+        cancelled(client, rest.strip_prefix(b"cancelled\",\"ticket\":")?)
+    }
+}
+
+/// The draft of a line, if it can be read.
+pub fn draft_of(alloc: Global, line: &[u8]) -> Option<Draft<'_>> {
+    if let Some(rest) = line.strip_prefix(b"{\"block\":\"") {
+        submitted(rest)
+    } else {
+        by_client(alloc, line.strip_prefix(b"{\"client\":")?)
     }
 }

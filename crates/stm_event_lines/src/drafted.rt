@@ -6,9 +6,8 @@ ghost use Rattle.stm_event_lines.specs.Fits.{FitsNames, FitsVerdict, FitsValue, 
 ghost use Rattle.stm_event_lines.specs.Lines.{event_line};
 ghost use Rattle.stm_terms.specs.Limits.{max_clients};
 
-use crate::draft::{Draft, DraftVerdict};
+use crate::draft::{Draft, DraftVerdict, draft_of};
 use crate::write::event_text;
-use serde_json::from_slice;
 use std::alloc::Global;
 use stm_events::event::{Event, What};
 use stm_events::shared_verdict::SharedVerdict;
@@ -177,6 +176,7 @@ fn event_of(
             let stale = tickets_of(alloc, stale)?;
             finished(alloc, client, ticket, verdict, first_new, stale)
         }
+        Draft::Cancelled { client, ticket } => Ok(event_by(client, What::Cancelled { ticket })),
     }
 }
 
@@ -192,7 +192,7 @@ pub fn drafted_event(
     ensures line { IfOk result (λ o. IfSome o (λ e. event_line e ≡ line.now)) }
     ensures fits { IfOk result (λ o. IfSome o (λ e. FitsNames known.now e)) }
 {
-    let Ok(draft) = from_slice::<Draft>(alloc, line) else {
+    let Some(draft) = draft_of(alloc, line) else {
         return Ok(None);
     };
     let Some(event) = event_of(alloc, known, draft, blocks)? else {
