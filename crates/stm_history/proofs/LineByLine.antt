@@ -25,20 +25,20 @@ begun s m line taken p k h = let small : length line ≤ max_line = k in part_mo
 ended : (taken line more : List ℕ) → (taken ++ line) ++ (10 ∷ more) ≡ taken ++ ((line ++ 10 ∷ []) ++ more)
 ended taken line more = append_assoc taken line (10 ∷ more) ∙ ap (λ l. taken ++ l) (sym (append_assoc line (10 ∷ []) more))
 
-pub whole_tells : (s s' : Stage) (m : ℕ) (line : List ℕ) (e : HistoryFault) → NoLineFeed line → IsShort line → s' ≡ s
-    → ((p : CheckerState) → IsStage s' p → MayRefuse p line e) → (taken more : List ℕ) → Reached s m [] taken → ReportsFault e (taken ++ ((line ++ 10 ∷ []) ++ more))
-whole_tells s s' m line e p k es f taken more h =
-    subst (ReportsFault e) (ended taken line more) (refused_byte s s' m line line (taken ++ line) more 10 e refl es refl f (begun s m line taken p k h))
+pub whole_tells : (s : Stage) (m : ℕ) (line : List ℕ) (e : HistoryFault) → NoLineFeed line → IsShort line
+    → ((p : CheckerState) → IsStage s p → MayRefuse p line e) → (taken more : List ℕ) → Reached s m [] taken → ReportsFault e (taken ++ ((line ++ 10 ∷ []) ++ more))
+whole_tells s m line e p k f taken more h =
+    subst (ReportsFault e) (ended taken line more) (refused_byte s s m line line (taken ++ line) more 10 e refl refl refl f (begun s m line taken p k h))
 
-pub whole_stops : (s s' : Stage) (m : ℕ) (line : List ℕ) (e : HistoryFault) → NoLineFeed line → IsShort line → s' ≡ s
-    → ((p : CheckerState) → IsStage s' p → MayRefuse p line e) → (taken more : List ℕ) → Reached s m [] taken → StopsAt e m (taken ++ ((line ++ 10 ∷ []) ++ more))
-whole_stops s s' m line e p k es f taken more h =
-    subst (StopsAt e m) (ended taken line more) (refused_stops s s' m line line (taken ++ line) more e es refl f (begun s m line taken p k h))
+pub whole_stops : (s : Stage) (m : ℕ) (line : List ℕ) (e : HistoryFault) → NoLineFeed line → IsShort line
+    → ((p : CheckerState) → IsStage s p → MayRefuse p line e) → (taken more : List ℕ) → Reached s m [] taken → StopsAt e m (taken ++ ((line ++ 10 ∷ []) ++ more))
+whole_stops s m line e p k f taken more h =
+    subst (StopsAt e m) (ended taken line more) (refused_stops s s m line line (taken ++ line) more e refl refl f (begun s m line taken p k h))
 
-pub whole_taken : (s s' t : Stage) (m n : ℕ) (line : List ℕ) → NoLineFeed line → IsShort line → s' ≡ s → n ≡ m + (length line + 1)
-    → ((p : CheckerState) → IsStage s' p → LeadsToStage p line t) → (taken : List ℕ) → Reached s m [] taken → Reached t n [] (taken ++ (line ++ 10 ∷ []))
-whole_taken s s' t m n line p k es e f taken h =
-    subst (Reached t n []) (append_assoc taken line (10 ∷ [])) (fed_byte s s' t m n line line [] (taken ++ line) 10 refl es refl refl e f (begun s m line taken p k h))
+pub whole_taken : (s t : Stage) (m n : ℕ) (line : List ℕ) → NoLineFeed line → IsShort line → n ≡ m + (length line + 1)
+    → ((p : CheckerState) → IsStage s p → LeadsToStage p line t) → (taken : List ℕ) → Reached s m [] taken → Reached t n [] (taken ++ (line ++ 10 ∷ []))
+whole_taken s t m n line p k e f taken h =
+    subst (Reached t n []) (append_assoc taken line (10 ∷ [])) (fed_byte s s t m n line line [] (taken ++ line) 10 refl refl refl refl e f (begun s m line taken p k h))
 
 -- ---- the last line
 pub last_taken : (s : Stage) (m : ℕ) (line left : List ℕ) → NoLineFeed line → IsShort line → left ≡ line → (taken : List ℕ) → Reached s m [] taken → Reached s m left (taken ++ line)

@@ -219,7 +219,7 @@ add_refused format waiting c ticket block w label d f fits (inl k) = inl k
 add_refused format waiting c ticket block w label d f fits (inr k) = inr (inl (k.0, block_refused format waiting c ticket block w label d fits k.1))
 
 -- ---- the stage among the events
-pub run_leads : (format : ℕ) (table : List Declared) (c : Option CheckpointView) (r r' : Replayer) (line : List ℕ)
+run_leads : (format : ℕ) (table : List Declared) (c : Option CheckpointView) (r r' : Replayer) (line : List ℕ)
     → ((S : Start) (H : List Event) → S.format ≡ format → S.table ≡ table → S.checkpoint ≡ c → Follows S H r → (e : Event) × LeadsTo (at_events S H) line (at_events S (H ++ e ∷ [])) × Follows S (H ++ e ∷ []) r')
     → (p : CheckerState) → IsStage (Running format table c r) p → LeadsToStage p line (Running format table c r')
 run_leads format table c r r' line led p i =
@@ -227,11 +227,24 @@ run_leads format table c r r' line led p i =
     let k = led start i.0 refl refl refl i.2 in
     subst (λ (x : CheckerState). LeadsToStage x line (Running format table c r')) (sym i.1) (at_events start (i.0 ++ k.0 ∷ []), k.1, (i.0 ++ k.0 ∷ [], refl, k.2))
 
-pub run_refused : (format : ℕ) (table : List Declared) (c : Option CheckpointView) (r : Replayer) (line : List ℕ) (f : HistoryFault)
+run_refused : (format : ℕ) (table : List Declared) (c : Option CheckpointView) (r : Replayer) (line : List ℕ) (f : HistoryFault)
     → ((S : Start) (H : List Event) → S.format ≡ format → S.table ≡ table → S.checkpoint ≡ c → Follows S H r → MayRefuse (at_events S H) line f)
     → (p : CheckerState) → IsStage (Running format table c r) p → MayRefuse p line f
 run_refused format table c r line f refused p i =
     subst (λ (x : CheckerState). MayRefuse x line f) (sym i.1) (refused (record { format = format; table = table; checkpoint = c }) i.0 refl refl refl i.2)
+
+-- of a stage that is one of events, whatever the result is
+pub running_leads : (o : Result (Unit {0}) HistoryFault) (stage : Stage) (format : ℕ) (table : List Declared) (c : Option CheckpointView) (r r' : Replayer) (line : List ℕ) → stage ≡ Running format table c r
+    → OnOk o ((S : Start) (H : List Event) → S.format ≡ format → S.table ≡ table → S.checkpoint ≡ c → Follows S H r → (e : Event) × LeadsTo (at_events S H) line (at_events S (H ++ e ∷ [])) × Follows S (H ++ e ∷ []) r')
+    → OnOk o ((p : CheckerState) → IsStage stage p → LeadsToStage p line (Running format table c r'))
+running_leads (Ok u) stage format table c r r' line is led = λ p i. run_leads format table c r r' line led p (subst (λ (s : Stage). IsStage s p) is i)
+running_leads (Err e) stage format table c r r' line is led = tt
+
+pub running_refused : (o : Result (Unit {0}) HistoryFault) (stage : Stage) (format : ℕ) (table : List Declared) (c : Option CheckpointView) (r : Replayer) (line : List ℕ) → stage ≡ Running format table c r
+    → IfErr o (λ f. (S : Start) (H : List Event) → S.format ≡ format → S.table ≡ table → S.checkpoint ≡ c → Follows S H r → MayRefuse (at_events S H) line f)
+    → IfErr o (λ f. (p : CheckerState) → IsStage stage p → MayRefuse p line f)
+running_refused (Ok u) stage format table c r line is refused = tt
+running_refused (Err f) stage format table c r line is refused = λ p i. run_refused format table c r line f refused p (subst (λ (s : Stage). IsStage s p) is i)
 
 -- the number of its next line
 pub run_line : (format : ℕ) (table : List Declared) (c : Option CheckpointView) (r : Replayer) (n : ℕ) → ((S : Start) (H : List Event) → S.table ≡ table → S.checkpoint ≡ c → Follows S H r → n ≡ next_line S H)

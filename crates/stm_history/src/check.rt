@@ -247,36 +247,15 @@ fn take_event_line(
     }
 }
 
-/// Takes a line among the events.
-fn run_on(
+/// Takes a line before those of the events.
+fn take_first_line(
     alloc: Global,
-    format: u32,
-    table: Table,
-    checkpoint: Option<Checkpoint>,
-    mut replayer: Replayer,
+    seed: Seed,
+    stage: Stage,
     line: &[u8],
 ) -> Result<Stage, HistoryFault>
-    requires { (S : Start) × (H : List AnyEvent) × Follows S H replayer }
-    ensures leads { IfOk result (λ s. (p : CheckerState)
-        → IsStage (Running format table checkpoint replayer) p → LeadsToStage p line.now s) }
-    ensures refused { IfErr result (λ e. (p : CheckerState)
-        → IsStage (Running format table checkpoint replayer) p → MayRefuse p line.now e) }
-    ensures keeps { IfOk result (λ s. keeps s ≡ is_some replayer.kept) }
-{
-    match take_event_line(alloc, format, &table, &checkpoint, &mut replayer, line) {
-        Ok(()) => Ok(Stage::Running {
-            format,
-            table,
-            checkpoint,
-            replayer,
-        }),
-        Err(error) => Err(error),
-    }
-}
-
-/// Takes a whole line.
-fn take_line(alloc: Global, seed: Seed, stage: Stage, line: &[u8]) -> Result<Stage, HistoryFault>
-    requires { (p : CheckerState) × IsStage stage p × CountsWithinLimits p }
+    requires stage { (p : CheckerState) × IsStage stage p × CountsWithinLimits p }
+    requires before { IsRunning stage → ⊥ }
     ensures leads { IfOk result (λ s. (p : CheckerState) → IsStage stage p
         → LeadsToStage p line.now s) }
     ensures refused { IfErr result (λ e. (p : CheckerState) → IsStage stage p
@@ -303,12 +282,36 @@ fn take_line(alloc: Global, seed: Seed, stage: Stage, line: &[u8]) -> Result<Sta
             waiting,
             checkpoint,
         } => take_block(alloc, seed, keep, format, waiting, checkpoint, line),
-        Stage::Running {
-            format,
-            table,
-            checkpoint,
-            replayer,
-        } => run_on(alloc, format, table, checkpoint, replayer, line),
+        Stage::Running { .. } => unreachable!(),
+    }
+}
+
+/// Takes a whole line. A fault leaves some stage.
+fn take_line(alloc: Global, seed: Seed, stage: &mut Stage, line: &[u8]) -> Result<(), HistoryFault>
+    requires { (p : CheckerState) × IsStage stage.old p × CountsWithinLimits p }
+    ensures leads { OnOk result ((p : CheckerState) → IsStage stage.old p
+        → LeadsToStage p line.now stage.new) }
+    ensures refused { IfErr result (λ e. (p : CheckerState) → IsStage stage.old p
+        → MayRefuse p line.now e) }
+    ensures keeps { OnOk result (keeps stage.new ≡ keeps stage.old) }
+{
+    // The events are most of the lines, and their stage is large: it isn't moved.
+    if let Stage::Running {
+        format,
+        table,
+        checkpoint,
+        replayer,
+    } = stage
+    {
+        return take_event_line(alloc, *format, table, checkpoint, replayer, line);
+    }
+    let first = mem::replace(stage, Stage::Before { keep: false });
+    match take_first_line(alloc, seed, first, line) {
+        Ok(next) => {
+            *stage = next;
+            Ok(())
+        }
+        Err(fault) => Err(fault),
     }
 }
 
@@ -401,10 +404,8 @@ impl Checker {
         ensures keeps { OnOk result (keeps self.new.stage ≡ keeps self.old.stage) }
         ensures same_line { self.new.line.items ≡ self.old.line.items }
     {
-        let stage = mem::replace(&mut self.stage, Stage::Before { keep: false });
-        match take_line(self.alloc, self.seed, stage, line) {
-            Ok(next) => {
-                self.stage = next;
+        match take_line(self.alloc, self.seed, &mut self.stage, line) {
+            Ok(()) => {
                 self.whole += line.len() + 1;
                 Ok(())
             }
