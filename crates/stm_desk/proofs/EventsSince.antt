@@ -1,5 +1,5 @@
 -- The events after the last delivery to a ticket, what they write, and where the cause is looked for.
-use Rattle.std.proofs.Common.{◌≡◌, ℕ, zero, suc, ◌+◌, ◌<◌, Bool, true, false, ◌||◌, cond, List, [], ◌∷◌, ◌++◌, Option, Some, None, length, get_or, drop, refl, sym, subst, arith}
+use Rattle.std.proofs.Common.{◌≡◌, ℕ, Bool, true, false, ◌||◌, cond, List, [], ◌∷◌, ◌++◌, Option, Some, None, refl, subst}
 use Rattle.std.specs.Prelude.{nat_eq}
 use Rattle.stm_terms.specs.declared.values.Value.{Value}
 use Rattle.stm_terms.specs.Changes.{find}
@@ -8,7 +8,7 @@ use Rattle.stm_events.specs.declared.event.Event.{Event}
 use Rattle.stm_events.specs.Headline.{installs_to, is_installed}
 use Rattle.stm_events.specs.SlowDesk.{Slow, after, state_from}
 use Rattle.stm_desk.specs.Reasons.{first_cause, cause_since_delivery}
-use Rattle.stm_desk.specs.ReasonsTold.{EachIsWritable, events_since}
+use Rattle.stm_desk.specs.ReasonsTold.{events_since}
 
 or_false : (a b : Bool) → (a || b) ≡ false → (a ≡ false) × (b ≡ false)
 or_false true b e = absurd (cc)
@@ -21,26 +21,7 @@ or_true false b e = e
 here_true : (a b : Bool) → a ≡ true → (a || b) ≡ true
 here_true a b e = rw e refl
 
--- ---- a scan from the end
-installed_at : (t : ℕ) (h : List Event) (k : ℕ) (e : Event) → k < length h → e ≡ get_or h k e → installs_to t e.what ≡ true → is_installed t h ≡ true
-installed_at t [] k e l at d = absurd (omega arith)
-installed_at t (x ∷ h) zero e l at d = here_true (installs_to t x.what) (is_installed t h) (subst (λ (y : Event). installs_to t y.what ≡ true) at d)
-installed_at t (x ∷ h) (suc k) e l at d = or_true (installs_to t x.what) (is_installed t h) (installed_at t h k e (omega arith) at d)
-
-since_suc : (t : ℕ) (h : List Event) (k : ℕ) (e : Event) → k < length h → e ≡ get_or h k e → installs_to t e.what ≡ true → is_installed t (drop (suc k) h) ≡ false → Some (drop (suc k) h) ≡ events_since t h
-since_suc t [] k e l at d n = absurd (omega arith)
-since_suc t (x ∷ h) zero e l at d n =
-    let g : installs_to t x.what ≡ true = subst (λ (y : Event). installs_to t y.what ≡ true) at d in
-    rw (n, g) refl
-since_suc t (x ∷ h) (suc k) e l at d n =
-    let g : is_installed t h ≡ true = installed_at t h k e (omega arith) at d in
-    rw g (since_suc t h k e (omega arith) at d n)
-
-pub since_at : (t : ℕ) (h : List Event) (i k : ℕ) (e : Event) → k + 1 ≡ i → k < length h → e ≡ get_or h k e → installs_to t e.what ≡ true → is_installed t (drop i h) ≡ false → Some (drop i h) ≡ events_since t h
-since_at t h i k e same l at d n =
-    let q : suc k ≡ i = omega arith in
-    subst (λ (j : ℕ). Some (drop j h) ≡ events_since t h) q (since_suc t h k e l at d (subst (λ (j : ℕ). is_installed t (drop j h) ≡ false) (sym q) n))
-
+-- ---- no delivery
 pub none_since : (t : ℕ) (h : List Event) → is_installed t h ≡ false → events_since t h ≡ None
 none_since t [] n = refl
 none_since t (x ∷ h) n = let p = or_false (installs_to t x.what) (is_installed t h) n in rw (p.1, p.0) refl
@@ -58,16 +39,6 @@ pub cause_after : (t : ℕ) (reads : List (ℕ × Value)) (s : Slow) (before : L
     → cause_since_delivery t reads s (before ++ e ∷ later) ≡ first_cause reads (after (state_from s before) e.what) later
 cause_after t reads s [] e later d n = rw (n, d) refl
 cause_after t reads s (x ∷ before) e later d n = rw (installed_mid t before e later d) (cause_after t reads (after s x.what) before e later d n)
-
--- ---- events that can be read
-writable_by : (a b : Bool) (es later : List Event) (o : Option (List Event)) → EachIsWritable es → (o ≡ Some later → EachIsWritable later) → cond a o (cond b (Some es) None) ≡ Some later → EachIsWritable later
-writable_by true b es later o h more e = more e
-writable_by false true es later o h more e = let q : es ≡ later = cc in subst EachIsWritable q h
-writable_by false false es later o h more e = cc
-
-pub since_writable : (t : ℕ) (h later : List Event) → EachIsWritable h → events_since t h ≡ Some later → EachIsWritable later
-since_writable t [] later w e = cc
-since_writable t (x ∷ h) later w e = writable_by (is_installed t h) (installs_to t x.what) h later (events_since t h) w.1 (since_writable t h later w.1) e
 
 -- ---- a value that is written has a number
 number_step : (b : Bool) (n : ℕ) (w : ℕ × Value) (o : Option Value) (v : Value) → HasNumber n w.1 → (Some v ≡ o → HasNumber n v) → Some v ≡ cond b (Some w.1) o → HasNumber n v

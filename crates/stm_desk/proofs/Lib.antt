@@ -15,6 +15,7 @@ pub mod Labels
 pub mod LastLists
 pub mod Limit
 pub mod Listed
+pub mod ListedReasons
 pub mod MayKeep
 pub mod ReadValues
 pub mod ReasonsStay

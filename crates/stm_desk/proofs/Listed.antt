@@ -29,7 +29,7 @@ use Rattle.stm_desk.specs.declared.reason.Change.{Change}
 use Rattle.stm_desk.specs.Reasons.{ticket_of, Cause, cause_or}
 use Rattle.stm_desk.specs.ReasonsTold.{changes_told, cause_told}
 use Rattle.stm_desk.specs.Checkpointed.{kept_cause}
-use Rattle.stm_desk.specs.Causes.{cause_listed, last_listed}
+use Rattle.stm_desk.specs.Causes.{cause_listed, has_in_list, last_listed}
 use Rattle.stm_desk.proofs.CausesTold.{FitsHere, FitFrom, told_here, not_woken, none_met, found_by}
 use Rattle.stm_desk.proofs.ReadValues.{AreRead, reads_are, found_read, unchanged}
 
@@ -58,17 +58,8 @@ in_stale_after t n k woken [] r = refl
 in_stale_after t n k woken (w ∷ ws) r =
     any_step (nat_eq t w.ticket) (becomes_stale woken w) t woken w (filter (becomes_stale woken) ws) (find_waiter t ws) refl refl (above_here t n w ws r.2) (in_stale_after t n w.ticket woken ws r.2)
 
--- the list of an event has the ticket
-abbrev in_list : ℕ → What → Bool
-in_list t (Submitted u block) = false
-in_list t (Installed u v) = false
-in_list t (Finished u v n stale) = list_any (nat_eq t) stale
-in_list t (Cancelled u) = false
-in_list t (DeclaredLate name kind value) = false
-in_list t (Labelled u label) = false
-
--- its cause is then what the event changed
-listed_is : (t : ℕ) (reads : List (ℕ × Value)) (what : What) → cause_listed t reads what ≡ cond (in_list t what) (Some (kept_cause (record { finish = ticket_of what; changes = changes_told reads what }))) None
+-- the cause of a ticket in the list of an event is what the event changed
+pub listed_is : (t : ℕ) (reads : List (ℕ × Value)) (what : What) → cause_listed t reads what ≡ cond (has_in_list t what) (Some (kept_cause (record { finish = ticket_of what; changes = changes_told reads what }))) None
 listed_is t reads (Submitted u block) = refl
 listed_is t reads (Installed u v) = refl
 listed_is t reads (Finished u v n stale) = refl
@@ -80,8 +71,8 @@ none_listed_by : (b : Bool) (k : KeptCause) → b ≡ false → cond b (Some k) 
 none_listed_by true k e = cc
 none_listed_by false k e = refl
 
-not_listed : (t : ℕ) (reads : List (ℕ × Value)) (what : What) → in_list t what ≡ false → cause_listed t reads what ≡ None
-not_listed t reads what e = listed_is t reads what ∙ none_listed_by (in_list t what) _ e
+not_listed : (t : ℕ) (reads : List (ℕ × Value)) (what : What) → has_in_list t what ≡ false → cause_listed t reads what ≡ None
+not_listed t reads what e = listed_is t reads what ∙ none_listed_by (has_in_list t what) _ e
 
 pub or_none : (o : Option KeptCause) → option_or o None ≡ o
 or_none None = refl
@@ -118,7 +109,7 @@ not_becoming woken true o h = refl
 not_becoming woken false None h = refl
 not_becoming woken false (Some w) h = ap (λ (b : Bool). b && not (is_current (after_writes woken w))) (h w refl)
 
-unlisted : (t : ℕ) (s : Slow) (what : What) → IsPossible s → Allows s what → IsNotCurrent t s → in_list t what ≡ false
+unlisted : (t : ℕ) (s : Slow) (what : What) → IsPossible s → Allows s what → IsNotCurrent t s → has_in_list t what ≡ false
 unlisted t s (Submitted u block) p a k = refl
 unlisted t s (Installed u v) p a k = refl
 unlisted t s (Finished u v n stale) p a k = finish_lists t u s v n stale p a ∙ not_becoming (waking s.rule s.store v) (nat_eq t u) (find_waiter t s.waiters) k
@@ -242,8 +233,8 @@ module _ (t : ℕ) (block : Block) (store_then : List Cell) (verdict : Verdict) 
 
   -- what an event does to it: it leaves it current, makes it stale, or ends it
   data Turn (s : Slow) (what : What) : Type 0 where
-    Stays : changes_told reads what ≡ [] → in_list t what ≡ false → IsWaiting (after s what) → Turn s what
-    Turns : (changes_told reads what ≡ [] → ⊥) → in_list t what ≡ true → IsNotCurrent t (after s what) → Turn s what
+    Stays : changes_told reads what ≡ [] → has_in_list t what ≡ false → IsWaiting (after s what) → Turn s what
+    Turns : (changes_told reads what ≡ [] → ⊥) → has_in_list t what ≡ true → IsNotCurrent t (after s what) → Turn s what
     Ends : IsGone t (after s what) → Turn s what
 
   -- where a finish changes none of the reads, none of the variables that it changes was read
@@ -293,7 +284,7 @@ module _ (t : ℕ) (block : Block) (store_then : List Cell) (verdict : Verdict) 
       ∙ (let g = k.fresh in rw (g, both) refl))
       (λ x g. let q : after_writes woken w ≡ x = cc in subst (λ (y : Waiter). is_current y ≡ false) q (ap not both))
 
-  stays_by : (s : Slow) (what : What) (k : IsWaiting s) → changes_told reads what ≡ [] → in_list t what ≡ false → find_waiter t (after s what).waiters ≡ find_waiter t s.waiters → Turn s what
+  stays_by : (s : Slow) (what : What) (k : IsWaiting s) → changes_told reads what ≡ [] → has_in_list t what ≡ false → find_waiter t (after s what).waiters ≡ find_waiter t s.waiters → Turn s what
   stays_by s what k told list same = Stays told list (record { number = k.number; woken = k.woken; found = same ∙ k.found; fresh = k.fresh })
 
   cancelled_by : (d : Bool) (s : Slow) (u : ℕ) (k : IsWaiting s) → nat_eq t u ≡ d → IsPossible s → Turn s (Cancelled u)
@@ -334,7 +325,7 @@ module _ (t : ℕ) (block : Block) (store_then : List Cell) (verdict : Verdict) 
       ∙ more k ∙ ap (option_map kept_cause) (sym (told_none (ticket_of e.what) (changes_told reads e.what) (cause_told reads es) told))
   by_turn s e es w p l n (Turns told list k) there more =
       ap (λ (o : Option KeptCause). option_or o (cause_listed t reads e.what)) (none_listed t reads (after s e.what) es (possible_after s e.what p l.0.what) l.1 n k)
-      ∙ listed_is t reads e.what ∙ found_listed (in_list t e.what) (kept_cause (record { finish = ticket_of e.what; changes = changes_told reads e.what })) list
+      ∙ listed_is t reads e.what ∙ found_listed (has_in_list t e.what) (kept_cause (record { finish = ticket_of e.what; changes = changes_told reads e.what })) list
       ∙ ap (option_map kept_cause) (sym (told_some (ticket_of e.what) (changes_told reads e.what) (cause_told reads es) told))
   by_turn s e es w p l n (Ends k) there more = let none = gone_from t (after s e.what) es (possible_after s e.what p l.0.what) l.1 k in absurd (cc)
 

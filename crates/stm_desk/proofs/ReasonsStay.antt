@@ -32,11 +32,11 @@ use Rattle.stm_desk.proofs.ReadValues.{none_left}
 use Rattle.stm_desk.proofs.Starts.{IsTypedHistory}
 
 -- ---- a cause is made of changes of the reads, so it is found again
-record AreChanges (reads : List (ℕ × Value)) (cs : List Change) : Type 0 where
+pub record AreChanges (reads : List (ℕ × Value)) (cs : List Change) : Type 0 where
   pub variables : Variables
   pub are : cs ≡ changes_from reads variables
 
-what_changes : (reads : List (ℕ × Value)) (what : What) → AreChanges reads (changes_told reads what)
+pub what_changes : (reads : List (ℕ × Value)) (what : What) → AreChanges reads (changes_told reads what)
 what_changes reads (Submitted t block) = record { variables = λ i. None; are = none_left reads (λ i. None) (λ i. refl) }
 what_changes reads (Installed t v) = record { variables = λ i. None; are = none_left reads (λ i. None) (λ i. refl) }
 what_changes reads (Finished t v n stale) = record { variables = left_by_verdict n v; are = refl }
@@ -52,7 +52,7 @@ told_changes : (reads : List (ℕ × Value)) (es : List Event) (c : Cause) → c
 told_changes reads [] c e = cc
 told_changes reads (e ∷ es) c is = cause_changes reads (ticket_of e.what) (changes_told reads e.what) (cause_told reads es) c (what_changes reads e.what) (told_changes reads es c) is
 
-cause_is : (reads : List (ℕ × Value)) (c : Cause) → Rising reads → AreChanges reads c.changes → cause_again reads (kept_cause c) ≡ c
+pub cause_is : (reads : List (ℕ × Value)) (c : Cause) → Rising reads → AreChanges reads c.changes → cause_again reads (kept_cause c) ≡ c
 cause_is reads c ascend a =
     ap (λ (cs : List Change). record { finish = c.finish; changes = changes_from reads (λ i. find i (lefts cs)) }) a.are
     ∙ ap (λ (cs : List Change). record { finish = c.finish; changes = cs }) (changes_again reads a.variables ascend ∙ sym a.are)
@@ -76,7 +76,7 @@ before_again : (b : Bool) (reads : List (ℕ × Value)) (kept : Option KeptCause
 before_again true reads kept o ascend h e = kept_again reads kept ascend
 before_again false reads kept o ascend h e = told_again reads o ascend h e
 
-stale_again : (before : Bool) (kept : Option KeptCause) (reads : List (ℕ × Value)) (history : List Event) (later : Option (List Event)) → Rising reads → is_some (stale_told before kept reads history later) ≡ true
+pub stale_again : (before : Bool) (kept : Option KeptCause) (reads : List (ℕ × Value)) (history : List Event) (later : Option (List Event)) → Rising reads → is_some (stale_told before kept reads history later) ≡ true
     → Some (reason_kept reads (cause_kept (stale_told before kept reads history later))) ≡ stale_told before kept reads history later
 stale_again before kept reads history (Some later) ascend e = told_again reads (cause_told reads later) ascend (told_changes reads later) e
 stale_again before kept reads history None ascend e = before_again before reads kept (cause_told reads history) ascend (told_changes reads history) e

@@ -68,14 +68,6 @@ pub found_ticket : (t : ℕ) (ws : List Waiter) (w : Waiter) → find_waiter t w
 found_ticket t [] w f = cc
 found_ticket t (v ∷ ws) w f = ticket_by (nat_eq t v.ticket) t v w (find_waiter t ws) refl (found_ticket t ws w) f
 
-stale_if : (b : Bool) (v : Option Verdict) (x u : Option Verdict) → Stale v ≡ cond b (Stale x) (Current u) → b ≡ true
-stale_if true v x u e = refl
-stale_if false v x u e = cc
-
--- what the events write tells the reason of a stale block
-abbrev pub IsStaleReason : DeskView → ℕ → List (ℕ × Value) → Type 0
-IsStaleReason d t reads = stale_told (stale_at t d.checkpoint) (kept_cause_at t d.checkpoint) reads d.history (events_since t d.history) ≡ reason_of d t
-
 reason_here : (b : Bool) (o : Option Cause) (r : Option WaitReason) → b ≡ true → (if b then option_map IsStale o else r) ≡ option_map IsStale o
 reason_here true o r e = refl
 reason_here false o r e = cc
@@ -119,25 +111,6 @@ stale_whole d t w s start k f e stale tracks =
     ∙ stale_reason_if (is_stale_since w.block s) (stale_reason (kept_cause_at w.ticket d.checkpoint) w.ticket looked (start_state d) d.history) (Some (current_reason (state_of d).store w)) stale
     ∙ ap (λ (u : ℕ). stale_reason (kept_cause_at u d.checkpoint) u looked (start_state d) d.history) (found_ticket t (state_of d).waiters w f)
     ∙ told_by d t w s start k tracks
-
-stale_since : (d : DeskView) (t : ℕ) (w : Waiter) (o : Option Since) (v : Option Verdict) (reads : List (ℕ × Value)) → MayStart d.table d.checkpoint → IsTypedHistory (start_state d) d.history → find_waiter t (state_of d).waiters ≡ Some w → w.since ≡ o
-    → Stale v ≡ standing_since (state_of d).store w.block o → Some reads ≡ read_since_then w.block o → IsTracked (start_state d) d.history t w.block o → IsStaleReason d t reads
-stale_since d t w None v reads start k f e n r tracks = absurd (cc)
-stale_since d t w (Some s) v reads start k f e n r tracks =
-    let stale : is_stale_since w.block s ≡ true = stale_if (is_stale_since w.block s) v (verdict_on s.store_then w.block) (verdict_on (state_of d).store w.block) n in
-    let same : reads_of (under s.store_then) w.block.tree ≡ reads = cc in
-    subst (λ (rs : List (ℕ × Value)). IsStaleReason d t rs) same (sym (stale_whole d t w s start k f e stale tracks))
-
-stale_by : (d : DeskView) (t : ℕ) (v : Option Verdict) (reads : List (ℕ × Value)) (o : Option Waiter) → MayStart d.table d.checkpoint → IsTypedHistory (start_state d) d.history → find_waiter t (state_of d).waiters ≡ o
-    → Some (Stale v) ≡ option_map (standing (state_of d).store) o → Some reads ≡ read_then o → IsStaleReason d t reads
-stale_by d t v reads None start k f e r = absurd (cc)
-stale_by d t v reads (Some w) start k f e r =
-    let n : Stale v ≡ standing (state_of d).store w = cc in
-    stale_since d t w w.since v reads start k f refl n r ((tracked_state (start_state d) d.history k.possible k.legal).each t w f)
-
-pub stands_stale : (d : DeskView) (t : ℕ) (v : Option Verdict) (reads : List (ℕ × Value)) → MayStart d.table d.checkpoint → IsTypedHistory (start_state d) d.history
-    → Some (Stale v) ≡ option_map (standing (state_of d).store) (find_waiter t (state_of d).waiters) → Some reads ≡ read_then (find_waiter t (state_of d).waiters) → IsStaleReason d t reads
-stands_stale d t v reads start k e r = stale_by d t v reads (find_waiter t (state_of d).waiters) start k refl e r
 
 -- ---- a current block
 current_if : (b : Bool) (v : Verdict) (x u : Option Verdict) → Current (Some v) ≡ cond b (Stale x) (Current u) → (b ≡ false) × (u ≡ Some v)

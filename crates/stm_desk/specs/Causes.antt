@@ -1,6 +1,6 @@
 -- How the causes of stale blocks are found for a checkpoint: through the history from its end, to the last finish whose list has the
 -- ticket; and if no list has it, in the checkpoint that the history begins from.
-use Rattle.std.specs.Prelude.{◌≡◌, ℕ, Bool, not, ◌&&◌, nat_eq, if◌then◌else◌, List, [], ◌∷◌, Option, Some, None, is_some, unwrap_or}
+use Rattle.std.specs.Prelude.{◌≡◌, ℕ, Bool, false, not, ◌&&◌, nat_eq, if◌then◌else◌, List, [], ◌∷◌, Option, Some, None, is_some, unwrap_or}
 use Rattle.std.specs.List.{list_any}
 use Rattle.std.specs.Option.{option_or}
 use Rattle.stm_terms.specs.declared.values.Value.{Value}
@@ -34,7 +34,21 @@ cause_listed t reads (Cancelled u) = None
 cause_listed t reads (DeclaredLate name kind value) = None
 cause_listed t reads (Labelled u label) = None
 
--- the same by the last of these events whose list has the ticket
+-- the list of an event has the ticket
+abbrev pub has_in_list : ℕ → What → Bool
+has_in_list t (Submitted u block) = false
+has_in_list t (Installed u v) = false
+has_in_list t (Finished u v n stale) = list_any (nat_eq t) stale
+has_in_list t (Cancelled u) = false
+has_in_list t (DeclaredLate name kind value) = false
+has_in_list t (Labelled u label) = false
+
+-- the last of these events whose list has the ticket
+abbrev pub last_with : ℕ → List Event → Option What
+last_with t [] = None
+last_with t (e ∷ es) = option_or (last_with t es) (if has_in_list t e.what then Some e.what else None)
+
+-- the cause of a ticket by that event
 abbrev pub last_listed : ℕ → List (ℕ × Value) → List Event → Option KeptCause
 last_listed t reads [] = None
 last_listed t reads (e ∷ es) = option_or (last_listed t reads es) (cause_listed t reads e.what)

@@ -1,5 +1,4 @@
 -- Why a block is stale by what the events after its last delivery write, and what a reason of the code says.
-use Rattle.std.specs.Global.{Vec}
 use Rattle.std.specs.Prelude.{ℕ, Bool, false, nat_eq, if◌then◌else◌, List, [], ◌∷◌, Option, Some, None, option_map}
 use Rattle.stm_terms.specs.declared.values.Value.{Value}
 use Rattle.stm_terms.specs.declared.verdicts.Verdict.{Verdict}
@@ -83,9 +82,10 @@ abbrev pub EachIsWritable : List Event → Type 0
 EachIsWritable [] = Unit {0}
 EachIsWritable (e ∷ es) = IsWritable e.what × EachIsWritable es
 
--- a ticket with changes, as the cause that it is
-abbrev pub cause_of : ℕ × Vec Change → Cause
-cause_of c = record { finish = c.0; changes = c.1.items }
+-- why a stale block of these reads is stale, by the event whose list has its ticket if there is one, and otherwise by the cause of before
+abbrev pub reason_listed : List (ℕ × Value) → Option KeptCause → Option What → WaitReason
+reason_listed reads kept None = reason_kept reads kept
+reason_listed reads kept (Some what) = IsStale (record { finish = ticket_of what; changes = changes_told reads what })
 
 -- what a reason says
 abbrev pub told_reason : Reason → WaitReason

@@ -1,17 +1,18 @@
 //! Why a block waits.
 
-ghost use Rattle.std.specs.Prelude.{◌≡◌, ◌∷◌, [], Some, MatchOption, IfOk, if◌then◌else◌, is_some, option_map};
+ghost use Rattle.std.specs.Prelude.{◌≡◌, ◌∷◌, [], Some, nat_eq, MatchOption, IfOk, if◌then◌else◌, is_some, option_map};
+ghost use Rattle.std.specs.List.{list_any};
 ghost use Rattle.std.specs.Option.{option_copied};
 ghost use Rattle.stm_terms.specs.Changes.{find as value_in};
 ghost use Rattle.stm_terms.specs.Typing.{Rising};
 ghost use Rattle.stm_terms.specs.Value.{same_value};
 ghost use Rattle.stm_store.specs.Cells.{renumbered};
 ghost use Rattle.stm_store.specs.FreshReferences.{HasNumber, AreWritable};
-ghost use Rattle.stm_events.specs.Headline.{installs_to as is_delivery_to};
 ghost use Rattle.stm_events.specs.SlowDesk.{find_waiter, is_blocks};
 ghost use Rattle.stm_desk.specs.DeskView.{state_of};
+ghost use Rattle.stm_desk.specs.Causes.{has_in_list, last_with};
 ghost use Rattle.stm_desk.specs.Reasons.{change_to, changes_from, kept_cause_in, kept_cause_at, ticket_of as ticket_in, IsStale, Waits as WaitsFor, CanFinish, reason_kept, reason_of};
-ghost use Rattle.stm_desk.specs.ReasonsTold.{left_by_writes, left_by_verdict, HasWritable, IsWritable, EachIsWritable, events_since as events_after, changes_told as changes_of, cause_told, cause_of, stale_in, stale_at, stale_told, told_reason};
+ghost use Rattle.stm_desk.specs.ReasonsTold.{left_by_writes, left_by_verdict, HasWritable, IsWritable, EachIsWritable, changes_told as changes_of, reason_listed, told_reason};
 
 use crate::desk::Desk;
 use crate::reason::{Change, Reason};
@@ -25,8 +26,8 @@ use stm_terms::verdicts::Verdict;
 
 impl Desk {
     /// What the block under a ticket waits for; none if no block waits there, and only then. `NoMemory` only if the block is
-    /// stale; then it goes through the events since the block's last delivery, and through the blocks of the checkpoint if that
-    /// delivery came before it.
+    /// stale; then it goes through the events since the block became stale, and through the blocks of the checkpoint if that was
+    /// before it.
     pub fn why(&self, alloc: Global, ticket: u32) -> Result<Option<Reason<'_>>, NoMemory>
         ensures reason { IfOk result (λ r. option_map told_reason r ≡ reason_of self.now ticket) }
         // A block that waits has a reason; so a stale one has a cause.
@@ -66,7 +67,8 @@ fn current_reason<'a>(verdict: &Verdict, reads: &'a [(u32, Value)]) -> Reason<'a
     }
 }
 
-/// What a stale block waits for, in a history that begins from the checkpoint if there is one.
+/// What a stale block waits for, in a history that begins from the checkpoint if there is one: the last finish whose list has the
+/// block's ticket made it stale.
 fn stale_reason<'a>(
     alloc: Global,
     ticket: u32,
@@ -76,18 +78,11 @@ fn stale_reason<'a>(
 ) -> Result<Option<Reason<'a>>, NoMemory>
     requires { EachIsWritable history.now }
     ensures { IfOk result (λ r. option_map told_reason r
-        ≡ stale_told (stale_at ticket (option_map (λ c. c.now) checkpoint.entry)) (kept_cause_at ticket (option_map (λ c. c.now) checkpoint.entry))
-        reads.now history.now (events_after ticket history.now)) }
+        ≡ Some (reason_listed reads.now (kept_cause_at ticket (option_map (λ c. c.now) checkpoint.entry)) (last_with ticket history.now))) }
 {
-    match events_since(history, ticket) {
-        Some(later) => stale_by(alloc, reads, later),
-        None => {
-            if was_stale(checkpoint, ticket) {
-                stale_before(alloc, reads, cause_kept_at(checkpoint, ticket))
-            } else {
-                stale_by(alloc, reads, history)
-            }
-        }
+    match find_cause(history, ticket) {
+        Some(what) => stale_by(alloc, reads, what),
+        None => stale_before(alloc, reads, cause_kept_at(checkpoint, ticket)),
     }
 }
 
@@ -131,84 +126,58 @@ fn cause_kept_in(blocks: &[CheckpointBlock], ticket: u32) -> Option<&KeptCause>
     None
 }
 
-/// A stale block, by the first of these events that changed variables of its reads.
+/// A block that this event made stale.
 fn stale_by<'a>(
     alloc: Global,
     reads: &[(u32, Value)],
-    events: &[Event],
+    what: &What,
 ) -> Result<Option<Reason<'a>>, NoMemory>
-    requires { EachIsWritable events.now }
+    requires { IsWritable what.now }
     ensures { IfOk result (λ r. option_map told_reason r
-        ≡ option_map IsStale (cause_told reads.now events.now)) }
+        ≡ Some (IsStale (record { finish = ticket_in what.now; changes = changes_of reads.now what.now }))) }
 {
-    match first_cause(alloc, reads, events)? {
-        Some((finish, changes)) => Ok(Some(Reason::Stale { finish, changes })),
-        None => Ok(None),
-    }
+    let changes = changes_told(alloc, reads, what)?;
+    Ok(Some(Reason::Stale {
+        finish: ticket_of(what),
+        changes,
+    }))
 }
 
-/// Whether the block under a ticket was stale at the checkpoint, if there is one.
-fn was_stale(checkpoint: Option<&Checkpoint>, ticket: u32) -> bool
-    ensures { result ≡ stale_at ticket (option_map (λ c. c.now) checkpoint.entry) }
-{
-    match checkpoint {
-        Some(checkpoint) => is_stale_in(checkpoint.blocks(), ticket),
-        None => false,
-    }
-}
-
-/// Whether the block under a ticket is stale, by these blocks of a checkpoint.
-fn is_stale_in(blocks: &[CheckpointBlock], ticket: u32) -> bool
-    ensures { result ≡ stale_in ticket blocks.now }
-{
-    for block in blocks {
-        if ticket == block.ticket {
-            return block.stale;
-        }
-    }
-    false
-}
-
-/// The events after the last delivery to a ticket, found from the end; none if there was no delivery.
-fn events_since(history: &[Event], ticket: u32) -> Option<&[Event]>
-    ensures { option_copied result ≡ events_after ticket history.now }
+/// The last event whose list has the ticket, found from the end.
+fn find_cause(history: &[Event], ticket: u32) -> Option<&What>
+    ensures { option_copied result ≡ last_with ticket history.now }
 {
     let mut i = history.len();
     while i > 0 {
-        if installs_to(&history[i - 1].what, ticket) {
-            return Some(&history[i..]);
+        let what = &history[i - 1].what;
+        if lists(what, ticket) {
+            return Some(what);
         }
         i -= 1;
     }
     None
 }
 
-/// Whether it is a delivery to the ticket.
-fn installs_to(what: &What, ticket: u32) -> bool
-    ensures { result ≡ is_delivery_to ticket what.now }
+/// Whether it is a finish whose list has the ticket.
+fn lists(what: &What, ticket: u32) -> bool
+    ensures { result ≡ has_in_list ticket what.now }
 {
     match what {
-        What::Installed { ticket: to, .. } => ticket == *to,
+        What::Finished { stale, .. } => is_among(stale.as_slice(), ticket),
         _ => false,
     }
 }
 
-/// The ticket of the first finish that changed variables of the reads, with these.
-fn first_cause(
-    alloc: Global,
-    reads: &[(u32, Value)],
-    events: &[Event],
-) -> Result<Option<(u32, Vec<Change>)>, NoMemory>
-    requires { EachIsWritable events.now }
-    ensures { IfOk result (λ c. option_map cause_of c ≡ cause_told reads.now events.now) }
+/// Whether the ticket is one of these.
+fn is_among(tickets: &[u32], ticket: u32) -> bool
+    ensures { result ≡ list_any (nat_eq ticket) tickets.now }
 {
-    for event in events {
-        let changes = changes_told(alloc, reads, &event.what)?;
-        if !changes.is_empty() {
-            return Ok(Some((ticket_of(&event.what), changes)));
+    for one in tickets {
+        if ticket == *one {
+            return true;
         }
     }
-    Ok(None)
+    false
 }
 
 /// The ticket of an event.

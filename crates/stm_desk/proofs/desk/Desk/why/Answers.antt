@@ -8,10 +8,12 @@ use Rattle.stm_events.specs.SlowDesk.{is_blocks, find_waiter}
 use Rattle.stm_machine.specs.Checkpoints.{CheckpointView, start_of}
 use Rattle.stm_desk.specs.DeskView.{DeskView, state_of}
 use Rattle.stm_desk.specs.Reasons.{kept_cause_at, WaitReason, NotEvaluated, Waits, CanFinish, reason_of}
-use Rattle.stm_desk.specs.ReasonsTold.{EachIsWritable, events_since, stale_at, stale_told, told_reason}
+use Rattle.stm_desk.specs.ReasonsTold.{EachIsWritable, reason_listed, told_reason}
+use Rattle.stm_desk.specs.Causes.{last_with}
 use Rattle.stm_desk.proofs.CausesTold.{each_is_writable}
 use Rattle.stm_desk.proofs.Starts.{typed_history}
-use Rattle.stm_desk.proofs.ReasonsTold.{no_waiter, no_reason, unread, stands_new, IsStaleReason, stands_stale, stands_current, has_reason}
+use Rattle.stm_desk.proofs.ListedReasons.{IsListedReason, stands_stale}
+use Rattle.stm_desk.proofs.ReasonsTold.{no_waiter, no_reason, unread, stands_new, stands_current, has_reason}
 use Rattle.stm_desk.proofs.desk.Desk.why.Goals as goal
 
 pub returns-in_default-clause-reason : goal.returns-in_default-clause-reason
@@ -45,16 +47,17 @@ pub returns-in-Stale-clause-reason : goal.returns-in-Stale-clause-reason
 returns-in-Stale-clause-reason c =
     let d : DeskView = record { table = c.self.inside.table; checkpoint = c.self.inside.checkpoint; limit = c.self.inside.limit; history = c.self.inside.history.items; pending = c.self.inside.machine.pending } in
     let k = c.self.invariant.0 in
+    let t = c.args.ticket in
     let reads = c.in-Some-reads.reads.now in
-    let p : IsStaleReason d c.args.ticket reads =
-    stands_stale d c.args.ticket (Some c.in-Stale.field-0.now) reads k.start (typed_history _ _ _ _ _ k c.len-variables.ensures.typed)
+    let p : IsListedReason d t reads =
+    stands_stale d t (Some c.in-Stale.field-0.now) reads k.start (typed_history _ _ _ _ _ k c.len-variables.ensures.typed)
     (ap (λ (s : Status). Some (shown s)) (sym c.in-Stale.is) ∙ c.in-Some.ensures (state_of d) k.at)
     (c.in-Some-reads.ensures.then (state_of d) k.at)
     in
-    let same : stale_told (stale_at c.args.ticket (option_copied c.as_ref.result)) (kept_cause_at c.args.ticket (option_copied c.as_ref.result)) reads c.deref.result.now (events_since c.args.ticket c.deref.result.now) ≡ reason_of c.args.self.now c.args.ticket =
-    ap (λ (h : List Event). stale_told (stale_at c.args.ticket (option_copied c.as_ref.result)) (kept_cause_at c.args.ticket (option_copied c.as_ref.result)) reads h (events_since c.args.ticket h)) c.deref.ensures.value
-    ∙ ap (λ (o : Option CheckpointView). stale_told (stale_at c.args.ticket o) (kept_cause_at c.args.ticket o) reads d.history (events_since c.args.ticket d.history)) c.as_ref.ensures.value
-    ∙ subst (λ (x : DeskView). stale_told (stale_at c.args.ticket d.checkpoint) (kept_cause_at c.args.ticket d.checkpoint) reads d.history (events_since c.args.ticket d.history) ≡ reason_of x c.args.ticket) c.self.view_is p
+    let same : Some (reason_listed reads (kept_cause_at t (option_copied c.as_ref.result)) (last_with t c.deref.result.now)) ≡ reason_of c.args.self.now t =
+    ap (λ (h : List Event). Some (reason_listed reads (kept_cause_at t (option_copied c.as_ref.result)) (last_with t h))) c.deref.ensures.value
+    ∙ ap (λ (o : Option CheckpointView). Some (reason_listed reads (kept_cause_at t o) (last_with t d.history))) c.as_ref.ensures.value
+    ∙ subst (λ (x : DeskView). Some (reason_listed reads (kept_cause_at t d.checkpoint) (last_with t d.history)) ≡ reason_of x t) c.self.view_is p
     in
     subst (λ (x : Option WaitReason). IfOk c.stale_reason.result (λ r. option_map told_reason r ≡ x)) same c.stale_reason.ensures
 
