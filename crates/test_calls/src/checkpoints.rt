@@ -11,7 +11,7 @@ ghost use Rattle.stm_store.specs.Naming.{named_in_table, named_uses};
 use crate::blocks::block_of;
 use crate::desk_show::say_names;
 use crate::store::Held;
-use crate::words::{first_word, number, say};
+use crate::words::{first_word, int, number, say};
 use std::alloc::{AllocError, Global};
 use std::fmt::Write;
 use stm_check::SharedBlock;
@@ -21,10 +21,6 @@ use stm_machine::{AddError, Checkpoint, CheckpointBlock, CheckpointError, Machin
 use stm_store::{Names, Store, Table};
 use stm_terms::text::write_writes;
 use stm_terms::{Fault, News, Ty, Value, Verdict, Writes, write_verdict};
-
-fn int(word: &str) -> Value {
-    Value::Int(word.parse::<i64>().unwrap_or(0))
-}
 
 /// The reads that a word lists, as `0=5,1=7`; `-` lists none.
 fn reads_in(alloc: Global, word: &str) -> Result<Vec<(u32, Value)>, AllocError> {

@@ -3,7 +3,7 @@
 ghost use Rattle.std.specs.Prelude.{◌<◌};
 ghost use Rattle.stm_store.specs.Cells.{Fits, plains};
 
-use crate::words::{first_word, number, say};
+use crate::words::{first_word, int, number, say};
 use std::alloc::{AllocError, Global};
 use std::fmt::Write;
 use stm_store::{Applied, ApplyError, Frozen, Store, Table};
@@ -42,11 +42,12 @@ pub fn open(
     say("done", out)
 }
 
-/// Writes of 7 to variables.
-fn writes(alloc: Global, words: &str) -> Result<Vec<(u32, Value)>, AllocError> {
+/// Variables with values, as `64=8`; without a value it is 7.
+pub fn pairs(alloc: Global, words: &str) -> Result<Vec<(u32, Value)>, AllocError> {
     let mut found = Vec::new(alloc);
     for word in words.split_whitespace() {
-        found.push((number(word), Value::Int(7)))?;
+        let (variable, value) = word.split_once('=').unwrap_or((word, "7"));
+        found.push((number(variable), int(value)))?;
     }
     Ok(found)
 }
@@ -62,9 +63,9 @@ fn news(alloc: Global) -> Result<Vec<(Ty, Value)>, AllocError> {
     Ok(made)
 }
 
-/// A verdict that writes 7 to variables, and makes one that holds 5.
+/// A verdict that writes values to variables, and makes one that holds 5.
 fn verdict(alloc: Global, words: &str) -> Result<Verdict, AllocError> {
-    let writes = Writes::from_vec(writes(alloc, words)?);
+    let writes = Writes::from_vec(pairs(alloc, words)?);
     Ok(Verdict::Commits {
         writes,
         news: News::from_vec(news(alloc)?),

@@ -2,6 +2,7 @@
 
 use std::alloc::AllocError;
 use std::fmt::Write;
+use stm_terms::Value;
 
 /// The first word of a text, and what follows the blank after it.
 pub fn first_word(text: &str) -> (&str, &str) {
@@ -14,6 +15,11 @@ pub fn first_word(text: &str) -> (&str, &str) {
 /// The number of a word, 0 if it is none.
 pub fn number(word: &str) -> u32 {
     word.parse::<u32>().unwrap_or(0)
+}
+
+/// The `Int` of a word, 0 if it is none.
+pub fn int(word: &str) -> Value {
+    Value::Int(word.parse::<i64>().unwrap_or(0))
 }
 
 /// Prints a text.
