@@ -15,7 +15,8 @@ use stm_store::{Frozen, Names, Store, Table};
 use stm_terms::text::write_writes;
 use stm_terms::{Verdict, write_verdict};
 
-fn say_verdict(verdict: &Verdict, reads: &Reads, out: &mut String) -> Result<(), AllocError> {
+/// Prints a verdict, and what was read for it.
+pub fn say_verdict(verdict: &Verdict, reads: &Reads, out: &mut String) -> Result<(), AllocError> {
     write_verdict(verdict, out)?;
     out.push_str(" reads ")?;
     write_writes(reads.as_slice(), out)?;
@@ -64,7 +65,7 @@ fn message_of<R: Threads + Sync>(
 }
 
 /// The opening store of the declared variables.
-fn opening(alloc: Global, table: &Table) -> Result<Frozen, AllocError> {
+pub fn opening(alloc: Global, table: &Table) -> Result<Frozen, AllocError> {
     let store = Store::open(alloc, table)?;
     Ok(store.freeze()?)
 }

@@ -15,16 +15,20 @@ mod desks;
 mod evaluating;
 mod histories;
 mod input;
+mod log;
 mod pool_calls;
 mod pool_gate;
 mod pools;
+mod queue;
 mod store;
 mod tables;
+mod watch;
 mod words;
 
 use crate::desks::Desks;
 use crate::histories::Gathered;
 use crate::input::Lines;
+use crate::log::Logging;
 use crate::store::Held;
 use crate::words::{first_word, number, say};
 use std::alloc::{AllocError, Global};
@@ -34,7 +38,9 @@ use std::sync::Wait;
 use std::thread::Threads;
 use std::time::Clock;
 use stm_machine::Checkpoint;
+use stm_queue::Pending;
 use stm_store::Table;
+use stm_watch::Watch;
 
 /// The exit status if the input or the output failed.
 const BROKEN: u8 = 1;
@@ -49,6 +55,9 @@ const ROOM: usize = 1 << 18;
 struct Objects {
     table: Table,
     store: Option<Held>,
+    log: Option<Logging>,
+    queue: Pending,
+    watch: Watch,
     desks: Desks,
     gathered: Gathered,
     checkpoint: Option<Checkpoint>,
@@ -61,6 +70,9 @@ impl Drop for Objects {
         let Objects {
             table: _,
             store: _,
+            log: _,
+            queue: _,
+            watch: _,
             desks: _,
             gathered: _,
             checkpoint: _,
@@ -73,6 +85,9 @@ fn new_objects(alloc: Global) -> Objects {
     Objects {
         table: Table::empty(alloc),
         store: None,
+        log: None,
+        queue: Pending::empty(alloc),
+        watch: Watch::empty(alloc),
         desks: Desks::new(alloc),
         gathered: Gathered::new(alloc),
         checkpoint: None,
@@ -112,6 +127,7 @@ fn answer_part(
         "tokens" => blocks::answer_tokens(alloc, call, out),
         "table" => tables::answer(&mut objects.table, alloc, call, out),
         "store" => store::answer(&mut objects.store, &objects.table, alloc, call, out),
+        "log" => log::answer(&mut objects.log, &objects.table, alloc, call, out),
         "desk" => desks::answer(&mut objects.desks, &objects.table, alloc, call, out),
         "history" => {
             histories::answer(&mut objects.gathered, &mut objects.desks, alloc, call, out)
@@ -148,6 +164,8 @@ fn answer<T: Threads + Wait + Clock + Sync>(
         }
         "pool" => answer_pool(objects, rt, alloc, call, out),
         "eval" => evaluating::answer(rt, &objects.table, alloc, call, out),
+        "queue" => queue::answer(&mut objects.queue, call, out),
+        "watch" => watch::answer(&mut objects.watch, alloc, call, out),
         _ => answer_part(objects, alloc, module, call, out),
     }
 }
