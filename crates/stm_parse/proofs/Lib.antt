@@ -3,6 +3,7 @@ pub mod ActionReaders
 pub mod AnswersCorrect
 pub mod BodyReaders
 pub mod CallsExact
+pub mod ClassTable
 pub mod Climbing
 pub mod DepthLevels
 pub mod Expectations

@@ -10,10 +10,29 @@ ghost use Rattle.stm_parse.specs.Lexing.{class_of};
 use crate::limits::{GREATEST_WRITTEN, MOST_DIGITS};
 use crate::token::Mark;
 
+// Letters.
+const LETTER: u8 = 1;
+
+// Letters, and what may follow one in a word.
+const WORD: u8 = 3;
+
+const BLANK: u8 = 4;
+
+// For each byte a digit, whose low three bits are the flags above.
+static CLASS: [u8; 256] = *b"\
+    00000000044004000000000000000000\
+    40000002000000002222222222000000\
+    01111111111111111111111111100002\
+    01111111111111111111111111100000\
+    00000000000000000000000000000000\
+    00000000000000000000000000000000\
+    00000000000000000000000000000000\
+    00000000000000000000000000000000";
+
 pub(crate) fn is_letter(byte: u8) -> bool
     ensures { result ≡ is_letter byte }
 {
-    (b'a' <= byte && byte <= b'z') || (b'A' <= byte && byte <= b'Z')
+    CLASS[byte as usize] & LETTER != 0
 }
 
 pub(crate) fn is_digit(byte: u8) -> bool
@@ -25,14 +44,14 @@ pub(crate) fn is_digit(byte: u8) -> bool
 fn is_word_byte(byte: u8) -> bool
     ensures { result ≡ is_word_byte byte }
 {
-    is_letter(byte) || is_digit(byte) || byte == b'_' || byte == b'\''
+    CLASS[byte as usize] & WORD != 0
 }
 
 /// Whether a byte is a tab, a line feed, a carriage return or a space.
 pub fn is_blank(byte: u8) -> bool
     ensures { result ≡ is_blank byte }
 {
-    byte == b'\t' || byte == b'\n' || byte == b'\r' || byte == b' '
+    CLASS[byte as usize] & BLANK != 0
 }
 
 // <- <= == && ||
