@@ -2,9 +2,9 @@
 
 ghost use Rattle.std.specs.Prelude.{◌≡◌, ◌+◌, ◌-◌, ◌<◌, ◌≤◌, ◌∷◌, length, IfOk, IfErr, pos, neg_ℤ};
 ghost use Rattle.stm_terms.specs.ParsedAst.{raw_term_of, bin};
-ghost use Rattle.stm_parse.specs.Grammar.{deepest, widest, greatest};
+ghost use Rattle.stm_parse.specs.Grammar.{deepest, widest, greatest, grouping_of};
 ghost use Rattle.stm_parse.specs.DescentResults.{GivesReading};
-ghost use Rattle.stm_parse.specs.Descent.{in_reach, literal, bracketed, short_of, refuse, init, atom_at, tier_at, climb_at};
+ghost use Rattle.stm_parse.specs.Descent.{in_reach, literal, bracketed, short_of, refuse, init, atom_at, tier_at, climb_at, climb_by};
 
 use crate::cursor::{
     Grouping, Parsed, accept, bad_number, expect, groups, one_level_deeper, operator, unexpected,
@@ -164,19 +164,43 @@ fn climb<'t>(
     if own < from || width <= own {
         return Ok((left, toks));
     }
+    climb_past(alloc, levels, own, op, width, left, rest)
+}
+
+// After an operator of a tier below `width`: its right side, and what may follow both.
+//
+// It is apart from `climb`, which mostly finds no operator, since it has many large temporaries.
+#[cycle(expressions)]
+#[inline(never)]
+fn climb_past<'t>(
+    alloc: Global,
+    levels: u8,
+    own: u8,
+    op: Op,
+    width: u8,
+    left: RawExpr,
+    toks: &'t [Lexeme],
+) -> Parsed<'t, RawExpr>
+    requires low { levels ≤ deepest }
+    requires width { width ≤ widest }
+    requires below { own < width }
+    ensures gives { GivesReading raw_term_of result
+        (climb_by (grouping_of own) own width levels (raw_term_of left) op toks.now) }
+    ensures shorter { IfOk result (λ r. length r.1.now ≤ length toks.now) }
+{
     match groups(own) {
         Grouping::ToLeft => {
-            let (right, rest) = tier(alloc, levels, own, rest)?;
+            let (right, rest) = tier(alloc, levels, own, toks)?;
             let both = joined(alloc, op, left, right)?;
             climb(alloc, levels, own, width, both, rest)
         }
         Grouping::NotChained => {
-            let (right, rest) = tier(alloc, levels, own, rest)?;
+            let (right, rest) = tier(alloc, levels, own, toks)?;
             let both = joined(alloc, op, left, right)?;
             climb(alloc, levels, own + 1, width, both, rest)
         }
         Grouping::ToRight => {
-            let (right, rest) = tier(alloc, levels, own + 1, rest)?;
+            let (right, rest) = tier(alloc, levels, own + 1, toks)?;
             let both = joined(alloc, op, left, right)?;
             climb(alloc, levels, own + 1, width, both, rest)
         }

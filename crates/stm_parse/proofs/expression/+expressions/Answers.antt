@@ -1,6 +1,6 @@
 -- One level or tier deeper, and one operator after another.
-use Rattle.std.proofs.Common.{arith, rules, inl, inr}
-use Rattle.stm_parse.specs.declared.cursor.Grouping.TheVariants as grouping
+use Rattle.std.proofs.Common.{arith, rules, refl, sym, inl, inr}
+use Rattle.stm_parse.specs.Grammar.{grouping_of}
 use Rattle.stm_parse.specs.Descent.{atom_at}
 use Rattle.stm_terms.specs.ParsedAst.{raw_term_of}
 use Rattle.stm_parse.proofs.DepthLevels.{inside_none, inside_some}
@@ -30,38 +30,26 @@ climb-returns-then-own-from-clause-gives t c =
     climb_leaves c.args.from c.args.width c.args.levels (raw_term_of c.args.left) c.args.toks.now s.own s.op s.rest.now c.requires.low (search rules)
     (elim c.then-own-from.either [ inl below ↦ inl below | inr over ↦ inr over.1 ])
 
-pub climb-returns-in_err-right-in-ToLeft-clause-gives : goal.climb-returns-in_err-right-in-ToLeft-clause-gives
-climb-returns-in_err-right-in-ToLeft-clause-gives t c =
+pub climb-returns-clause-gives : goal.climb-returns-clause-gives
+climb-returns-clause-gives t c =
     let s = c.in-Some in
-    let e = climb_more c.args.from c.args.width c.args.levels (raw_term_of c.args.left) c.args.toks.now s.own s.op s.rest.now grouping.ToLeft c.requires.low (search rules) (omega arith) (omega arith) (cc) in
-    rw e (grind arith)
+    let e = climb_more c.args.from c.args.width c.args.levels (raw_term_of c.args.left) c.args.toks.now s.own s.op s.rest.now (grouping_of s.own) c.requires.low (search rules) (omega arith) (omega arith) refl in
+    rw e c.climb_past.ensures.gives
 
-pub climb-returns-in_ok-both-in-ToLeft-clause-gives : goal.climb-returns-in_ok-both-in-ToLeft-clause-gives
-climb-returns-in_ok-both-in-ToLeft-clause-gives t c =
-    let s = c.in-Some in
-    let e = climb_more c.args.from c.args.width c.args.levels (raw_term_of c.args.left) c.args.toks.now s.own s.op s.rest.now grouping.ToLeft c.requires.low (search rules) (omega arith) (omega arith) (cc) in
-    rw e (grind arith)
+pub climb_past-returns-in_err-right-in-ToLeft-clause-gives : goal.climb_past-returns-in_err-right-in-ToLeft-clause-gives
+climb_past-returns-in_err-right-in-ToLeft-clause-gives t c = rw (sym c.in-ToLeft.ensures) (grind arith)
 
-pub climb-returns-in_err-right-in-NotChained-clause-gives : goal.climb-returns-in_err-right-in-NotChained-clause-gives
-climb-returns-in_err-right-in-NotChained-clause-gives t c =
-    let s = c.in-Some in
-    let e = climb_more c.args.from c.args.width c.args.levels (raw_term_of c.args.left) c.args.toks.now s.own s.op s.rest.now grouping.NotChained c.requires.low (search rules) (omega arith) (omega arith) (cc) in
-    rw e (grind arith)
+pub climb_past-returns-in_ok-both-in-ToLeft-clause-gives : goal.climb_past-returns-in_ok-both-in-ToLeft-clause-gives
+climb_past-returns-in_ok-both-in-ToLeft-clause-gives t c = rw (sym c.in-ToLeft.ensures) (grind arith)
 
-pub climb-returns-in_ok-both-in-NotChained-clause-gives : goal.climb-returns-in_ok-both-in-NotChained-clause-gives
-climb-returns-in_ok-both-in-NotChained-clause-gives t c =
-    let s = c.in-Some in
-    let e = climb_more c.args.from c.args.width c.args.levels (raw_term_of c.args.left) c.args.toks.now s.own s.op s.rest.now grouping.NotChained c.requires.low (search rules) (omega arith) (omega arith) (cc) in
-    rw e (grind arith)
+pub climb_past-returns-in_err-right-in-NotChained-clause-gives : goal.climb_past-returns-in_err-right-in-NotChained-clause-gives
+climb_past-returns-in_err-right-in-NotChained-clause-gives t c = rw (sym c.in-NotChained.ensures) (grind arith)
 
-pub climb-returns-in_err-right-in-ToRight-clause-gives : goal.climb-returns-in_err-right-in-ToRight-clause-gives
-climb-returns-in_err-right-in-ToRight-clause-gives t c =
-    let s = c.in-Some in
-    let e = climb_more c.args.from c.args.width c.args.levels (raw_term_of c.args.left) c.args.toks.now s.own s.op s.rest.now grouping.ToRight c.requires.low (search rules) (omega arith) (omega arith) (cc) in
-    rw e (grind arith)
+pub climb_past-returns-in_ok-both-in-NotChained-clause-gives : goal.climb_past-returns-in_ok-both-in-NotChained-clause-gives
+climb_past-returns-in_ok-both-in-NotChained-clause-gives t c = rw (sym c.in-NotChained.ensures) (grind arith)
 
-pub climb-returns-in_ok-both-in-ToRight-clause-gives : goal.climb-returns-in_ok-both-in-ToRight-clause-gives
-climb-returns-in_ok-both-in-ToRight-clause-gives t c =
-    let s = c.in-Some in
-    let e = climb_more c.args.from c.args.width c.args.levels (raw_term_of c.args.left) c.args.toks.now s.own s.op s.rest.now grouping.ToRight c.requires.low (search rules) (omega arith) (omega arith) (cc) in
-    rw e (grind arith)
+pub climb_past-returns-in_err-right-in-ToRight-clause-gives : goal.climb_past-returns-in_err-right-in-ToRight-clause-gives
+climb_past-returns-in_err-right-in-ToRight-clause-gives t c = rw (sym c.in-ToRight.ensures) (grind arith)
+
+pub climb_past-returns-in_ok-both-in-ToRight-clause-gives : goal.climb_past-returns-in_ok-both-in-ToRight-clause-gives
+climb_past-returns-in_ok-both-in-ToRight-clause-gives t c = rw (sym c.in-ToRight.ensures) (grind arith)

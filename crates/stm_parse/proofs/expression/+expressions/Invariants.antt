@@ -13,3 +13,6 @@ decreases-tier l = 8 * length l.toks.now + 2
 
 abbrev pub decreases-climb : goal.decreases-climb
 decreases-climb l = 8 * length l.toks.now + 1
+
+abbrev pub decreases-climb_past : goal.decreases-climb_past
+decreases-climb_past l = 8 * length l.toks.now + 3
