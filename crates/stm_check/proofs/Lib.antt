@@ -6,6 +6,7 @@ pub mod CheckedResolved
 pub mod CheckedTyped
 pub mod ExpressionsSound
 pub mod LaterNames
+pub mod NameBits
 pub mod RecordedUses
 pub mod SameTypes
 mod Sizes

@@ -10,7 +10,7 @@ use Rattle.stm_terms.specs.UnlessNoMemory.{AnswersUnless}
 use Rattle.stm_check.specs.declared.fault.TypeFault.{TypeFault}
 use Rattle.stm_check.specs.declared.fault.TypeFault.TheVariants.{NoMemory}
 use Rattle.stm_check.specs.declared.checker.Checker.{Checker}
-use Rattle.stm_check.specs.Scopes.{scope, ScopeHasFewRefs}
+use Rattle.stm_check.specs.Scopes.{scope, ScopeHasFewRefs, ScopeIsConsistent}
 use Rattle.stm_check.specs.CheckFunction.{checked_expr, checked}
 use Rattle.stm_store.specs.Naming.{known_kinds}
 
@@ -18,13 +18,14 @@ use Rattle.stm_store.specs.Naming.{known_kinds}
 abbrev pub CanLookUp : Checker → raw.RawTerm → Type 0
 CanLookUp checker e =
     IsAscii checker.text.now × raw.NamesWithin (length checker.text.now) e
-    × (length (scope checker.locals.now) ≤ 2 ^ 32) × ScopeHasFewRefs (scope checker.locals.now)
+    × ScopeIsConsistent checker.locals.now × ScopeHasFewRefs (scope checker.locals.now)
 
 -- and those of an action, whose locals have numbers below 2 ^ 32
 abbrev pub CanCheck : Checker → raw.RawAct → Type 0
 CanCheck checker a =
     IsAscii checker.text.now × raw.SpansWithin (length checker.text.now) a
-    × (length (scope checker.locals.now) + raw.actions a ≤ 2 ^ 32) × ScopeHasFewRefs (scope checker.locals.now)
+    × (length (scope checker.locals.now) + raw.actions a ≤ 2 ^ 32)
+    × ScopeIsConsistent checker.locals.now × ScopeHasFewRefs (scope checker.locals.now)
 
 -- what the check of an expression finds, by the names that the checker can look up
 abbrev pub expr_found : Checker → raw.RawTerm → Result (Term × Ty) TypeFault

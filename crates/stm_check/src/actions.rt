@@ -8,7 +8,7 @@ ghost use Rattle.stm_check.specs.CheckContext.{CanCheck, ChecksAction};
 use crate::checker::Checker;
 use crate::expressions::{name_at, place};
 use crate::fault::TypeFault;
-use crate::scope::Scope;
+use crate::scope::{Scope, bits_with, count};
 use crate::types::{BOOL, INT, UNIT, inside, join, reference_to, same};
 use stm_terms::action::Action;
 use stm_terms::kinds::Ty;
@@ -153,7 +153,13 @@ impl Checker<'_> {
             alloc: self.alloc,
             known: self.known,
             text: self.text,
-            locals: &Scope::Local(local, INT, self.locals),
+            locals: &Scope::Local(
+                local,
+                INT,
+                count(self.locals),
+                bits_with(self.locals, local),
+                self.locals,
+            ),
         };
         let (b, handled) = inner.check_part(uses, handler)?;
         let Some(kind) = join(returned, handled) else {
@@ -186,7 +192,13 @@ impl Checker<'_> {
             alloc: self.alloc,
             known: self.known,
             text: self.text,
-            locals: &Scope::Local(local, kind, self.locals),
+            locals: &Scope::Local(
+                local,
+                kind,
+                count(self.locals),
+                bits_with(self.locals, local),
+                self.locals,
+            ),
         };
         let (b, kind) = inner.check_part(uses, rest)?;
         Ok((Action::Bind(a, b), kind))
@@ -212,7 +224,13 @@ impl Checker<'_> {
             alloc: self.alloc,
             known: self.known,
             text: self.text,
-            locals: &Scope::Local(local, kind, self.locals),
+            locals: &Scope::Local(
+                local,
+                kind,
+                count(self.locals),
+                bits_with(self.locals, local),
+                self.locals,
+            ),
         };
         let (b, kind) = inner.check_part(uses, rest)?;
         Ok((Action::Let(a, b), kind))

@@ -1,47 +1,103 @@
 //! Where names are looked up.
 
-ghost use Rattle.std.specs.Prelude.{◌≡◌, ◌+◌, ◌<◌, ◌≤◌, ◌^◌, length, IfSome, Some};
+ghost use Rattle.std.specs.Prelude.{◌≡◌, ◌+◌, ◌<◌, ◌≤◌, ◌^◌, ◌∷◌, length, IfSome, Some, None, true};
 ghost use Rattle.stm_terms.specs.Limits.{most_refs};
-ghost use Rattle.stm_check.specs.Scopes.{innermost, scope, ScopeHasFewRefs};
+ghost use Rattle.stm_check.specs.Scopes.{innermost, names_of, scope, ScopeHasFewRefs, bit_of, HasBits, ScopeIsConsistent};
 ghost use Rattle.stm_check.specs.CheckFunction.{variable};
 ghost use Rattle.stm_store.specs.Naming.{known_kinds};
 
 use stm_store::Names;
 use stm_terms::kinds::Ty;
 
-/// The locals, innermost first.
+/// The locals, innermost first: each with its name, its type, its number, which counts from the outermost, and the bits of
+/// the names from it outwards. Most names of variables have none of these bits, and so are looked up without a walk.
 #[derive(Drop)]
 pub(crate) enum Scope<'a> {
     Empty,
-    Local(&'a str, Ty, &'a Scope<'a>),
+    Local(&'a str, Ty, u32, u64, &'a Scope<'a>),
 }
 
-fn depth(locals: &Scope) -> u32
-    requires { length (scope locals.now) < 2 ^ 32 }
+/// How many locals there are.
+pub(crate) fn count(locals: &Scope) -> u32
+    requires kept { ScopeIsConsistent locals.now }
+    requires room { length (scope locals.now) < 2 ^ 32 }
     ensures { result ≡ length (scope locals.now) }
 {
     match locals {
         Scope::Empty => 0,
-        Scope::Local(_, _, outer) => 1 + depth(outer),
+        Scope::Local(_, _, number, _, _) => *number + 1,
     }
 }
 
-/// The innermost local of a name: its number, counted from the outermost, and its type.
-pub(crate) fn find_local(locals: &Scope, name: &str) -> Option<(u32, Ty)>
-    requires room { length (scope locals.now) ≤ 2 ^ 32 }
+// Which of 64 bits a name has. Names of one letter have different ones.
+#[tactic(auto, unfolding(crate::specs::Scopes::bit_of))]
+fn bit_of(name: &str) -> u32
+    ensures bit { result ≡ bit_of name.now }
+    ensures low { result < 64 }
+{
+    match name.as_bytes() {
+        [] => 0,
+        [first, ..] => (*first as u32 + 9 * (name.len() % 64) as u32) % 64,
+    }
+}
+
+// The bits of the locals.
+fn bits(locals: &Scope) -> u64
+    requires { ScopeIsConsistent locals.now }
+    ensures { HasBits result (names_of (scope locals.now)) }
+{
+    match locals {
+        Scope::Empty => 0,
+        Scope::Local(_, _, _, bits, _) => *bits,
+    }
+}
+
+/// The bits of the locals and of one more name.
+pub(crate) fn bits_with(locals: &Scope, name: &str) -> u64
+    requires { ScopeIsConsistent locals.now }
+    ensures { HasBits result (name.now ∷ names_of (scope locals.now)) }
+{
+    bits(locals) | 1 << bit_of(name)
+}
+
+// Whether the bit of a name is missing, so that no local has this name.
+fn lacks(locals: &Scope, name: &str) -> bool
+    requires { ScopeIsConsistent locals.now }
+    ensures { result ≡ true → innermost name.now (scope locals.now) ≡ None }
+{
+    bits(locals) >> bit_of(name) & 1 == 0
+}
+
+// Walks to the innermost local of a name.
+fn walk(locals: &Scope, name: &str) -> Option<(u32, Ty)>
+    requires kept { ScopeIsConsistent locals.now }
     requires shallow { ScopeHasFewRefs (scope locals.now) }
     ensures found { result ≡ innermost name.now (scope locals.now) }
     ensures low { IfSome result (λ l. l.1.refs ≤ most_refs + 1) }
 {
     match locals {
         Scope::Empty => None,
-        Scope::Local(own, kind, outer) => {
+        Scope::Local(own, kind, number, _, outer) => {
             if *own == name {
-                Some((depth(outer), *kind))
+                Some((*number, *kind))
             } else {
-                find_local(outer, name)
+                walk(outer, name)
             }
         }
+    }
+}
+
+/// The innermost local of a name: its number, counted from the outermost, and its type.
+pub(crate) fn find_local(locals: &Scope, name: &str) -> Option<(u32, Ty)>
+    requires kept { ScopeIsConsistent locals.now }
+    requires shallow { ScopeHasFewRefs (scope locals.now) }
+    ensures found { result ≡ innermost name.now (scope locals.now) }
+    ensures low { IfSome result (λ l. l.1.refs ≤ most_refs + 1) }
+{
+    if lacks(locals, name) {
+        None
+    } else {
+        walk(locals, name)
     }
 }
 
