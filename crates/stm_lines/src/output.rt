@@ -1,6 +1,6 @@
 //! Bytes for a writer.
 
-ghost use Rattle.std.specs.Prelude.{◌≡◌, ◌≢◌, ℕ, List, OnOk, OnErr, IfErr};
+ghost use Rattle.std.specs.Prelude.{◌≡◌, ℕ, List, OnOk, OnErr, IfErr};
 ghost use Rattle.std.specs.Io.{WritesAtMost};
 ghost use Rattle.std.specs.Io.KnownBytes.{Appends, Keeps, WriteAppends};
 ghost use Rattle.stm_terms.specs.Texts.{IsPrefixOf};
@@ -13,7 +13,7 @@ use std::io::{ErrorKind, Write};
 fn write_some<W: Write>(writer: &mut W, text: &[u8]) -> Result<usize, RunFault>
     ensures bound { WritesAtMost result text.now }
     ensures bytes { WriteAppends (W.contents writer.old) (W.contents writer.new) result text.now }
-    ensures fault { IfErr result (λ e. e ≢ RunFault.Read) }
+    ensures fault { IfErr result (λ e. e ≡ RunFault.Write) }
 {
     'tries: for _ in 0..u32::MAX {
         match writer.write(text) {
@@ -30,7 +30,7 @@ pub fn write_text<W: Write>(writer: &mut W, text: &[u8]) -> Result<(), RunFault>
     ensures done { OnOk result (Appends (W.contents writer.old) (W.contents writer.new) text.now) }
     ensures part { OnErr result ((front : List ℕ) × IsPrefixOf front text.now
         × Appends (W.contents writer.old) (W.contents writer.new) front) }
-    ensures fault { IfErr result (λ e. e ≢ RunFault.Read) }
+    ensures fault { IfErr result (λ e. e ≡ RunFault.Write) }
 {
     let mut at = 0;
     while at < text.len() {
@@ -46,7 +46,7 @@ pub fn write_text<W: Write>(writer: &mut W, text: &[u8]) -> Result<(), RunFault>
 /// Hands on what a buffered writer holds. A flush that is interrupted is tried again, as a write is.
 pub fn flush<W: Write>(writer: &mut W) -> Result<(), RunFault>
     ensures kept { Keeps (W.contents writer.old) (W.contents writer.new) }
-    ensures fault { IfErr result (λ e. e ≢ RunFault.Read) }
+    ensures fault { IfErr result (λ e. e ≡ RunFault.Write) }
 {
     'tries: for _ in 0..u32::MAX {
         match writer.flush() {
@@ -66,10 +66,7 @@ pub fn write_flushed<W: Write>(writer: &mut W, text: &[u8]) -> Result<(), RunFau
     ensures fault { IfErr result (λ e. e ≡ RunFault.Write) }
 {
     match write_text(writer, text) {
-        Ok(()) => match flush(writer) {
-            Ok(()) => Ok(()),
-            Err(_) => Err(RunFault::Write),
-        },
-        Err(_) => Err(RunFault::Write),
+        Ok(()) => flush(writer),
+        Err(fault) => Err(fault),
     }
 }
