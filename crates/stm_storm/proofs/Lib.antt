@@ -1,1 +1,3 @@
 pub mod ClientLines
+pub mod FailedReplays
+pub mod LegalStorms

@@ -1,12 +1,13 @@
 -- What the replay of a storm's history finds, and the text that the code writes of it.
-use Rattle.std.specs.Prelude.{◌≡◌, ℕ, List, [], ◌∷◌, ◌++◌, Some, None, codes, length, ⊤}
+use Rattle.std.specs.Prelude.{◌≡◌, ℕ, List, [], ◌∷◌, ◌++◌, Option, Some, None, codes, length, ⊤}
 use Rattle.stm_store.specs.Tables.{Declared}
 use Rattle.stm_events.specs.declared.event.Event.{Event}
 use Rattle.stm_events.specs.SlowDesk.{IsLegal}
+use Rattle.stm_pool.specs.declared.close.Report.{Report}
 use Rattle.stm_pool.specs.declared.storm.Counts.{Counts}
 use Rattle.stm_storm.specs.declared.replaying.Replay.{Replay}
 use Rattle.stm_storm.specs.declared.replaying.Replay.TheVariants.{NotClosed, NotLegal, Legal}
-use Rattle.stm_storm.specs.StormHistory.{IsStormHistory}
+use Rattle.stm_storm.specs.StormHistory.{IsIllegalStormHistory, IsStormHistory}
 use Rattle.stm_storm.specs.StormText.{client_lines, events_line, failed_lines}
 
 -- the lines after those of the clients
@@ -19,14 +20,25 @@ replay_text (Legal events) = events_line events ++ codes "replay ok" ++ 10 ∷ [
 abbrev pub end_text : List Counts → Replay → List ℕ
 end_text counts replay = client_lines 0 counts ++ replay_text replay
 
--- what is found of a closed desk's history: how many events it has, and that it is legal if that is reported
+-- what is found of a closed desk's history: whether it is legal, and how many events it has
 abbrev pub IsReplayed : List Declared → List Event → Replay → Type 0
 IsReplayed table history NotClosed = ⊥
-IsReplayed table history (NotLegal n) = n ≡ length history
+IsReplayed table history (NotLegal n) = ¬ IsLegal table history × (n ≡ length history)
 IsReplayed table history (Legal n) = IsLegal table history × (n ≡ length history)
 
--- if a storm's history was found legal, there is one
+-- the same of a desk that may not have been closed
+abbrev pub IsReplayedIfClosed : List Declared → Option Report → Replay → Type 0
+IsReplayedIfClosed table None replay = replay ≡ NotClosed
+IsReplayedIfClosed table (Some report) replay = IsReplayed table report.desk.history replay
+
+-- if a storm's history was found legal, or not legal, there is one
 abbrev pub IsStormEnd : List Declared → List Counts → Replay → Type 0
 IsStormEnd table counts NotClosed = ⊤
-IsStormEnd table counts (NotLegal n) = ⊤
+IsStormEnd table counts (NotLegal n) = (history : List Event) × IsIllegalStormHistory table counts n history
 IsStormEnd table counts (Legal n) = (history : List Event) × IsStormHistory table counts n history
+
+-- no legal history was found
+abbrev pub IsFailedReplay : Replay → Type 0
+IsFailedReplay NotClosed = ⊤
+IsFailedReplay (NotLegal n) = ⊤
+IsFailedReplay (Legal n) = ⊥

@@ -11,3 +11,9 @@ pub record IsStormHistory (table : List Declared) (counts : List Counts) (events
   pub legal : IsLegal table history
   pub many : events ≡ length history
   pub counted : CountsClients history 0 counts
+
+-- a history of this many events isn't legal over the table, and the counts say what each client did in it
+pub record IsIllegalStormHistory (table : List Declared) (counts : List Counts) (events : ℕ) (history : List Event) : Type 0 where
+  pub illegal : ¬ IsLegal table history
+  pub many : events ≡ length history
+  pub counted : CountsClients history 0 counts

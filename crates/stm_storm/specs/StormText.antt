@@ -1,8 +1,8 @@
 -- What a storm writes.
-use Rattle.std.specs.Prelude.{◌≡◌, ℕ, ◌+◌, List, [], ◌∷◌, ◌++◌, Option, Some, None, Ok, codes, decimal, length}
+use Rattle.std.specs.Prelude.{◌≡◌, ℕ, ◌+◌, List, [], ◌∷◌, ◌++◌, Option, Some, None, Ok, IfSome, codes, decimal, length}
 use Rattle.stm_events.specs.declared.event.Event.{Event}
 use Rattle.stm_pool.specs.declared.storm.Counts.{Counts}
-use Rattle.stm_storm.specs.StormHistory.{IsStormHistory}
+use Rattle.stm_storm.specs.StormHistory.{IsIllegalStormHistory, IsStormHistory}
 use Rattle.stm_script.specs.StormScript.{StormScript, storm_script}
 
 -- the line of a client
@@ -48,11 +48,13 @@ pub record IsStormText (input text : List ℕ) : Type 0 where
   pub counted : IsStormHistory script.table counts (length history) history
   pub written : text ≡ storm_text counts (length history)
 
--- a text that a storm of a script may write if its history isn't found legal
+-- a text that a storm of a script may write if its history isn't found legal. If it has a number of events, the counts are those of a
+-- history of that length which isn't legal over the script's variables; if not, the desk couldn't be closed
 pub record IsFailedStormText (input text : List ℕ) : Type 0 where
   pub script : StormScript
   pub right : storm_script input ≡ Ok script
   pub counts : List Counts
   pub each : length counts ≡ length script.sections
   pub events : Option ℕ
+  pub illegal : IfSome events (λ n. (history : List Event) × IsIllegalStormHistory script.table counts n history)
   pub written : text ≡ failed_text counts events

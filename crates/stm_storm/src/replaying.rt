@@ -2,7 +2,7 @@
 
 ghost use Rattle.std.specs.Prelude.{◌≡◌, length, IfOk, IfSome};
 ghost use Rattle.stm_pool.specs.Storms.{CountsDesk};
-ghost use Rattle.stm_storm.specs.StormEnd.{IsReplayed, IsStormEnd};
+ghost use Rattle.stm_storm.specs.StormEnd.{IsReplayed, IsReplayedIfClosed, IsStormEnd};
 
 use std::alloc::Global;
 use stm_history::{HistoryFault, replay};
@@ -28,8 +28,8 @@ fn judge(alloc: Global, table: &Table, report: &Report) -> Result<Replay, NoMemo
 {
     match replay(alloc, table, report.desk.history()) {
         Ok(_) => Ok(Replay::Legal(report.events)),
-        Err(HistoryFault::NoMemory) => Err(NoMemory),
-        Err(_) => Ok(Replay::NotLegal(report.events)),
+        Err(HistoryFault::NotLegal(_)) => Ok(Replay::NotLegal(report.events)),
+        Err(_) => Err(NoMemory),
     }
 }
 
@@ -41,7 +41,8 @@ pub fn replay_storm(
     report: &Option<Report>,
 ) -> Result<Replay, NoMemory>
     requires { IfSome report.now (λ r. CountsDesk counts.now r) }
-    ensures { IfOk result (λ r. IsStormEnd table.now counts.now r) }
+    ensures found { IfOk result (λ r. IsReplayedIfClosed table.now report.now r) }
+    ensures end { IfOk result (λ r. IsStormEnd table.now counts.now r) }
 {
     match report {
         Some(report) => judge(alloc, table, report),
