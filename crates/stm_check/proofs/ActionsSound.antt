@@ -2,6 +2,7 @@
 use Rattle.std.proofs.Common.{◌≡◌, ◌≢◌, ℕ, zero, suc, ◌<◌, ◌≤◌, Bool, true, false, List, [], ◌∷◌, ◌++◌, length, ◌⊎◌, inl, inr, Option, Some, None, Ok, Err, refl, ap, sym, ◌∙◌, subst, arith, eqb-true, ⊎_elim}
 use Rattle.std.specs.Prelude.{slice_get, slice_set, option_map, nat_eq, nat_lt, nat_le, if◌then◌else◌, ⊤}
 use Rattle.std.proofs.lemmas.Bool.Decides.{nat_tests}
+use Rattle.std.proofs.lemmas.Bool.{ltb-false, ltb-true}
 use Rattle.stm_terms.specs.declared.kinds.Ty.{Ty}
 use Rattle.stm_terms.specs.declared.values.Ref.{Ref}
 use Rattle.stm_terms.specs.declared.values.Ref.TheVariants.{Old, New}
@@ -48,14 +49,11 @@ swapped n i j x y z h = grind (arith, nat_tests)
 shadowed : {A : Type 0} (n i j : ℕ) (x y z : A) → n ≡ i → (if nat_eq i j then y else z) ≡ (if nat_eq i j then y else if nat_eq n j then x else z)
 shadowed n i j x y z h = grind (arith, nat_tests)
 
-less : (a b : ℕ) → nat_lt a b ≡ true → a < b
-less a b e = grind (arith, nat_tests)
-
 pub find-put : (i j : ℕ) (v : Value) (es : List (ℕ × Value)) → find j (put i v es) ≡ (if nat_eq i j then Some v else find j es)
 find-put i j v [] = refl
 find-put i j v (e ∷ es) =
     elim (nat_lt e.0 i) as (λ b. nat_lt e.0 i ≡ b → find j (if b then e ∷ put i v es else if nat_eq e.0 i then (i, v) ∷ es else (i, v) ∷ e ∷ es) ≡ (if nat_eq i j then Some v else if nat_eq e.0 j then Some e.1 else find j es)) [
-      | true ↦ λ lt. ap (λ o. if nat_eq e.0 j then Some e.1 else o) (find-put i j v es) ∙ swapped e.0 i j _ _ _ (less e.0 i lt)
+      | true ↦ λ lt. ap (λ o. if nat_eq e.0 j then Some e.1 else o) (find-put i j v es) ∙ swapped e.0 i j _ _ _ (ltb-true e.0 i lt)
       | false ↦ λ _. elim (nat_eq e.0 i) as (λ b. nat_eq e.0 i ≡ b → find j (if b then (i, v) ∷ es else (i, v) ∷ e ∷ es) ≡ (if nat_eq i j then Some v else if nat_eq e.0 j then Some e.1 else find j es)) [
         | true ↦ λ same. shadowed e.0 i j _ _ _ (eqb-true e.0 i same)
         | false ↦ λ _. refl
@@ -64,9 +62,6 @@ find-put i j v (e ∷ es) =
 
 at_most_8 : (n : ℕ) → nat_le n 8 ≡ true → n ≤ 8
 at_most_8 n e = grind (arith, nat_tests)
-
-not_less : (a b : ℕ) → nat_lt a b ≡ false → b ≤ a
-not_less a b e = grind (arith, nat_tests)
 
 below : (a b : ℕ) → b ≤ a → a ≢ b → b < a
 below a b h e = omega arith
@@ -90,10 +85,10 @@ rising-put : (i : ℕ) (v : Value) (es : List (ℕ × Value)) → Rising es → 
 rising-put i v [] p = (tt, tt)
 rising-put i v (e ∷ es) p =
     elim (nat_lt e.0 i) as (λ b. nat_lt e.0 i ≡ b → Rising (if b then e ∷ put i v es else if nat_eq e.0 i then (i, v) ∷ es else (i, v) ∷ e ∷ es)) [
-      | true ↦ λ lt. (above_put e.0 i v es (less e.0 i lt) p.0, rising-put i v es p.1)
+      | true ↦ λ lt. (above_put e.0 i v es (ltb-true e.0 i lt) p.0, rising-put i v es p.1)
       | false ↦ λ ge. elim (nat_eq e.0 i) as (λ b. nat_eq e.0 i ≡ b → Rising (if b then (i, v) ∷ es else (i, v) ∷ e ∷ es)) [
         | true ↦ λ same. (subst (λ n. AllAbove n es) (eqb-true e.0 i same) p.0, p.1)
-        | false ↦ λ other. let here : i < e.0 = below e.0 i (not_less e.0 i ge) (apart e.0 i other) in ((here, above_less i e.0 es (omega (arith, here)) p.0), p)
+        | false ↦ λ other. let here : i < e.0 = below e.0 i (ltb-false e.0 i ge) (apart e.0 i other) in ((here, above_less i e.0 es (omega (arith, here)) p.0), p)
       ] refl
     ] refl
 

@@ -10,7 +10,7 @@ use Rattle.clap.specs.declared.builder.value_parser.ValueParser.TheVariants.{Uns
 use Rattle.clap.specs.declared.parser.matches.Found.{Found}
 use Rattle.clap.proofs.ValueTestLemmas.{accepts-Accepts, Accepts-accepts}
 use Rattle.clap.proofs.WalkLemmas.{first_value-rows, one_text-rows}
-use Rattle.std.proofs.lemmas.Bool.{false≢true, leb-true}
+use Rattle.std.proofs.lemmas.Bool.{and_parts, false≢true, leb-true}
 use Rattle.std.specs.List.{list_all}
 use Rattle.std.proofs.lemmas.Slice.Eq.{bytes_eq-Decides}
 use Rattle.clap.specs.Words.{App, Kinds, FailsBy, HasKind, HasMatchesOf, IsAmong, fault_of, is_simple, is_simple_and_free, subcommand_of, subcommand_rows_of}
@@ -145,15 +145,11 @@ dashes_unanswered (name ∷ []) e = refl
 dashes_unanswered (name ∷ word ∷ []) e = dashed name word ((bytes_eq-Decides word (codes "run")).0 e)
 dashes_unanswered (name ∷ word ∷ next ∷ rest) e = absurd (false≢true e)
 
-both : (a b : Bool) → (a && b) ≡ true → (a ≡ true) × (b ≡ true)
-both true b e = (refl, e)
-both false b e = absurd (false≢true e)
-
 -- what is reported of mistakes is one
 among : (k : ErrorKind) (kinds : Kinds) → IsAmong k kinds → list_all is_mistake kinds ≡ true → is_mistake k ≡ true
 among k [] h e = absurd h
-among k (x ∷ xs) (inl same) e = rw same (both _ _ e).0
-among k (x ∷ xs) (inr later) e = among k xs later (both _ _ e).1
+among k (x ∷ xs) (inl same) e = rw same (and_parts _ _ e).0
+among k (x ∷ xs) (inr later) e = among k xs later (and_parts _ _ e).1
 
 pub mistake_kind : (kinds : Kinds) (e : Error) → HasKind kinds e → are_mistakes kinds ≡ true → is_mistake (kind_of e) ≡ true
 mistake_kind kinds e (inl same) h = rw same refl

@@ -2,6 +2,7 @@
 use Rattle.std.proofs.Common.{◌≡◌, ℕ, zero, suc, ◌+◌, ◌<◌, ◌≤◌, Bool, true, false, not, ◌&&◌, ◌||◌, cond, List, [], ◌∷◌, ◌++◌, map, filter, take, length, Option, Some, None, refl, sym, ap, subst, ◌∙◌, append_assoc, append-nil, arith}
 use Rattle.std.specs.Prelude.{nat_eq, option_map, is_some}
 use Rattle.std.proofs.lemmas.Bool.Decides.{nat_tests}
+use Rattle.std.proofs.lemmas.Bool.{not-true, or_right}
 use Rattle.stm_terms.specs.declared.verdicts.Verdict.{Verdict}
 use Rattle.stm_terms.specs.Changes.{cell_value}
 use Rattle.stm_terms.specs.ReadSet.{reads_of}
@@ -136,10 +137,6 @@ record QueueRises (k : ℕ) (es : List Entry) (ts : List ℕ) : Type 0 where
   pub above : RisesAbove k ts
   pub queued : AreQueuedIn es ts
 
-or_true : (a b : Bool) → b ≡ true → (a || b) ≡ true
-or_true true b h = refl
-or_true false b h = h
-
 unlike : (t k : ℕ) → k < t → nat_eq t k ≡ false
 unlike t k l = grind (arith, nat_tests)
 
@@ -148,7 +145,7 @@ in_more k e es [] l r q = tt
 in_more k e es (t ∷ ts) l r q =
     let m : k < t = r.0 in
     let n : nat_eq t e.0 ≡ false = unlike t e.0 (omega arith) in
-    (or_true (nat_eq t e.0) (has_ticket t es) q.0, ap (λ (b : Bool). (b && e.1) || is_out t es) n ∙ q.1, q.2, in_more t e es ts (omega arith) r.1 q.3)
+    (or_right (nat_eq t e.0) (has_ticket t es) q.0, ap (λ (b : Bool). (b && e.1) || is_out t es) n ∙ q.1, q.2, in_more t e es ts (omega arith) r.1 q.3)
 
 absent_out : (t : ℕ) (es : List Entry) → member t (tickets es) ≡ false → is_out t es ≡ false
 absent_out t [] h = refl
@@ -257,17 +254,13 @@ stopped : (d : DeskView) (n : ℕ) (e : DeliverError) (ts : List ℕ) → evalua
 stopped d n e [] = refl
 stopped d n e (t ∷ ts) = stopped d n e ts
 
-not_current : (b : Bool) → not b ≡ true → b ≡ false
-not_current true h = absurd cc
-not_current false h = refl
-
 -- what a block does on the present store is refused only if the history is full
 refusal : (s : Slow) (d : DeskView) (p : List Entry) (t : ℕ) (w : Waiter) (full : Bool) → find_waiter t s.waiters ≡ Some w → due_of (Some w) ≡ true → find_waiter t (state_of d).waiters ≡ find_waiter t s.waiters → (state_of d).store ≡ s.store → is_full d ≡ full
     → delivery_refusal (record d { pending = p }) (job s t w) ≡ cond full (Some HistoryFull) None
 refusal s d p t w full f due same store q =
     let reads = reads_of (cell_value (plains s.store)) w.block.tree in
     ap (λ (o : Option Waiter). delivery_first (state_of d).store o reads (record d { pending = p })) (same ∙ f)
-    ∙ ap (λ (b : Bool). cond b (Some Already) (overtaken_first (differing (under (state_of d).store) reads) (is_full d))) (not_current (is_current w) due)
+    ∙ ap (λ (b : Bool). cond b (Some Already) (overtaken_first (differing (under (state_of d).store) reads) (is_full d))) (not-true (is_current w) due)
     ∙ ap (λ (x : List Cell). overtaken_first (differing (under x) reads) (is_full d)) store
     ∙ ap (λ (i : Option ℕ). overtaken_first i (is_full d)) (reads_differ_nowhere (under s.store) w.block.tree)
     ∙ ap (λ (b : Bool). cond b (Some HistoryFull) None) q

@@ -3,6 +3,7 @@
 use Rattle.std.proofs.Common.{◌≡◌, ℕ, zero, suc, ◌<◌, ◌≤◌, Bool, true, false, not, ◌&&◌, ◌||◌, cond, List, [], ◌∷◌, ◌++◌, map, filter, Option, Some, None, refl, sym, ap, subst, ◌∙◌, arith, eqb-true}
 use Rattle.std.specs.Prelude.{nat_eq, nat_lt, option_map, IsSomeAnd}
 use Rattle.std.proofs.lemmas.Bool.Decides.{nat_tests}
+use Rattle.std.proofs.lemmas.Bool.{or_right}
 use Rattle.stm_terms.specs.declared.verdicts.Verdict.{Verdict}
 use Rattle.stm_check.specs.TypedBlock.{Block}
 use Rattle.stm_queue.specs.Queue.{Entry, tickets, has_ticket, with_entry, with_ticket, without_ticket, marked, sent_out, first_queued, recalled}
@@ -110,10 +111,6 @@ apart_by : (b : Bool) (u t : ℕ) (ts : List ℕ) → nat_eq u t ≡ b → Rises
 apart_by true u t ts e r m = let l : u ≤ t = grind (arith, nat_tests) in let n : member u ts ≡ false = absent_above u t ts l r in absurd cc
 apart_by false u t ts e r m = refl
 
-or_true : (a b : Bool) → b ≡ true → (a || b) ≡ true
-or_true true b h = refl
-or_true false b h = h
-
 first_there : (t : ℕ) (ts : List ℕ) → member t (t ∷ ts) ≡ true
 first_there t ts = rw (itself t) refl
 
@@ -121,7 +118,7 @@ all_rising : (ts : List ℕ) (k : ℕ) (es : List Entry) → RisesAbove k ts →
 all_rising [] k es r n h = h
 all_rising (t ∷ ts) k es r n h =
     all_rising ts t (with_ticket t es) r.1
-    (λ u m. has_with u (t, false) es ∙ neither (nat_eq u t) (has_ticket u es) (apart_by (nat_eq u t) u t ts refl r.1 m) (n u (or_true (nat_eq u t) (member u ts) m)))
+    (λ u m. has_with u (t, false) es ∙ neither (nat_eq u t) (has_ticket u es) (apart_by (nat_eq u t) u t ts refl r.1 m) (n u (or_right (nat_eq u t) (member u ts) m)))
     (added_rising t es h (n t (first_there t ts)))
 
 -- ---- events
@@ -132,9 +129,6 @@ kept_submit s b es r k =
       rising = added_rising s.next es k.rising (k.right s.next ∙ ap due_of (not_yet s.next s.next 0 s.waiters (omega arith) r));
       right = λ u. has_with u (s.next, false) es ∙ queue_push (nat_eq u s.next) (has_ticket u es) s.next b (find_waiter u s.waiters) (k.right u) ∙ sym (ap due_of (waiter_push u s.next 0 one s.waiters refl r));
     }
-
-same_number : (u t : ℕ) → nat_eq u t ≡ true → u ≡ t
-same_number u t h = eqb-true u t h
 
 and_left : (a b : Bool) → (a && b) ≡ true → not a ≡ false
 and_left true b h = refl
@@ -160,7 +154,7 @@ kept_finish s t n w v stale es r f may k =
       right = λ u.
           has_with_tickets u stale es ∙ ap (λ (b : Bool). b || has_ticket u es) (listed u)
           ∙ queue_finished (nat_eq u t) (has_ticket u es) W (find_waiter u s.waiters) (k.right u)
-          (λ e. k.right u ∙ ap due_of (subst (λ (x : ℕ). find_waiter x s.waiters ≡ Some w) (sym (same_number u t e)) f) ∙ ap not may.current)
+          (λ e. k.right u ∙ ap due_of (subst (λ (x : ℕ). find_waiter x s.waiters ≡ Some w) (sym (eqb-true u t e)) f) ∙ ap not may.current)
           ∙ sym (ap due_of (waiter_marks u W ws ∙ ap (option_map (after_writes W)) (waiter_without t u s.next 0 s.waiters r)));
     }
 

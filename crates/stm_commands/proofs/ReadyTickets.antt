@@ -2,6 +2,7 @@
 use Rattle.std.proofs.Common.{◌≡◌, ℕ, suc, ◌<◌, ◌≤◌, Bool, true, false, ◌&&◌, cond, List, [], ◌∷◌, ◌++◌, map, Option, Some, None, refl, sym, ap, ◌∙◌, subst, arith, append_assoc, append-nil}
 use Rattle.std.specs.Prelude.{nat_lt, filter, length, option_map, codes, decimal}
 use Rattle.std.proofs.lemmas.Bool.Decides.{nat_tests}
+use Rattle.std.proofs.lemmas.Bool.{lt-ltb, ltb-true}
 use Rattle.stm_terms.specs.Texts.{spaced}
 use Rattle.stm_events.specs.Laws.{AreRising}
 use Rattle.stm_events.specs.Ready.{is_ready, next_ready}
@@ -13,12 +14,6 @@ use Rattle.stm_commands.specs.Questions.{ready_tickets, ready_above}
 -- those of a test whose tickets are above this number
 abbrev those : (Waiter → Bool) → ℕ → List Waiter → List Waiter
 those p n ws = filter (λ (w : Waiter). nat_lt n w.ticket && p w) ws
-
-is_above : (n m : ℕ) → n < m → nat_lt n m ≡ true
-is_above n m h = grind (arith, nat_tests)
-
-higher_of : (n m : ℕ) → nat_lt n m ≡ true → n < m
-higher_of n m e = grind (arith, nat_tests)
 
 not_above_itself : (n : ℕ) → nat_lt n n ≡ false
 not_above_itself n = grind (arith, nat_tests)
@@ -46,7 +41,7 @@ those_cons : (p : Waiter → Bool) (n : ℕ) (w : Waiter) (ws : List Waiter) (b 
 those_cons p n w ws b e = ap (λ (t : Bool). cond t (w ∷ those p n ws) (those p n ws)) e
 
 passes : (p : Waiter → Bool) (m : ℕ) (w : Waiter) → m < w.ticket → (nat_lt m w.ticket && p w) ≡ p w
-passes p m w h = ap (λ (b : Bool). b && p w) (is_above m w.ticket h)
+passes p m w h = ap (λ (b : Bool). b && p w) (lt-ltb m w.ticket h)
 
 -- all tickets are above a lower number
 all_those : (p : Waiter → Bool) (n k m : ℕ) (ws : List Waiter) → AreRising n k ws → m ≤ k → those p m ws ≡ filter p ws
@@ -65,7 +60,7 @@ next_cons : (p : Waiter → Bool) (n k m : ℕ) (x w : Waiter) (ws : List Waiter
     → (lowest (λ (w : Waiter). nat_lt m w.ticket && p w) ws ≡ Some w → Next p m ws w) → Next p m (x ∷ ws) w
 next_cons p n k m x w ws true e r q rest =
     let s : x ≡ w = cc in
-    let h : m < x.ticket = higher_of m x.ticket (and_left (nat_lt m x.ticket) (p x) e) in
+    let h : m < x.ticket = ltb-true m x.ticket (and_left (nat_lt m x.ticket) (p x) e) in
     subst (Next p m (x ∷ ws)) s (record {
       higher = h;
       first = those_cons p m x ws true e ∙ ap (λ (xs : List Waiter). x ∷ xs)

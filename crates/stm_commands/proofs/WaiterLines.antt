@@ -2,6 +2,7 @@
 use Rattle.std.proofs.Common.{◌≡◌, ℕ, suc, ◌<◌, ◌≤◌, Bool, true, false, cond, List, [], ◌∷◌, ◌++◌, Option, Some, None, refl, sym, ap, ◌∙◌, subst, arith, append_assoc, append-nil}
 use Rattle.std.specs.Prelude.{nat_lt, nat_eq, filter, length, option_map}
 use Rattle.std.proofs.lemmas.Bool.Decides.{nat_tests}
+use Rattle.std.proofs.lemmas.Bool.{le-ltb, lt-ltb, ltb-false, ltb-true}
 use Rattle.stm_events.specs.Laws.{AreRising}
 use Rattle.stm_events.specs.SlowDesk.{Waiter, find_waiter}
 use Rattle.stm_events.specs.SlowSettle.{lowest}
@@ -13,16 +14,10 @@ above n ws = filter (λ (w : Waiter). nat_lt n w.ticket) ws
 above_cons : (n : ℕ) (w : Waiter) (ws : List Waiter) (b : Bool) → nat_lt n w.ticket ≡ b → above n (w ∷ ws) ≡ cond b (w ∷ above n ws) (above n ws)
 above_cons n w ws b e = ap (λ (t : Bool). cond t (w ∷ above n ws) (above n ws)) e
 
-is_above : (n m : ℕ) → n < m → nat_lt n m ≡ true
-is_above n m h = grind (arith, nat_tests)
-
-not_above : (n m : ℕ) → m ≤ n → nat_lt n m ≡ false
-not_above n m h = grind (arith, nat_tests)
-
 all_above : (n k m : ℕ) (ws : List Waiter) → AreRising n k ws → m ≤ k → above m ws ≡ ws
 all_above n k m [] r h = refl
 all_above n k m (w ∷ ws) r h =
-    above_cons m w ws true (is_above m w.ticket (omega (arith, r.0))) ∙ ap (λ (xs : List Waiter). w ∷ xs) (all_above n w.ticket m ws r.2 (omega (arith, r.0)))
+    above_cons m w ws true (lt-ltb m w.ticket (omega (arith, r.0))) ∙ ap (λ (xs : List Waiter). w ∷ xs) (all_above n w.ticket m ws r.2 (omega (arith, r.0)))
 
 pub all_waiters : (n : ℕ) (ws : List Waiter) → AreRising n 0 ws → above 0 ws ≡ ws
 all_waiters n ws r = all_above n 0 0 ws r (omega arith)
@@ -32,12 +27,6 @@ record Next (m : ℕ) (ws : List Waiter) (w : Waiter) : Type 0 where
   pub higher : m < w.ticket
   pub first : above m ws ≡ w ∷ above w.ticket ws
   pub found : find_waiter w.ticket ws ≡ Some w
-
-higher_of : (n m : ℕ) → nat_lt n m ≡ true → n < m
-higher_of n m e = grind (arith, nat_tests)
-
-lower_of : (n m : ℕ) → nat_lt n m ≡ false → m ≤ n
-lower_of n m e = grind (arith, nat_tests)
 
 same_eq : (n : ℕ) → nat_eq n n ≡ true
 same_eq n = grind (arith, nat_tests)
@@ -50,19 +39,19 @@ next_cons : (n k m : ℕ) (x w : Waiter) (ws : List Waiter) (b : Bool) → nat_l
 next_cons n k m x w ws true e r p rest =
     let q : x ≡ w = cc in
     subst (Next m (x ∷ ws)) q (record {
-      higher = higher_of m x.ticket e;
+      higher = ltb-true m x.ticket e;
       first = above_cons m x ws true e ∙ ap (λ (xs : List Waiter). x ∷ xs)
-          (all_above n x.ticket m ws r.2 (let h = higher_of m x.ticket e in omega (arith, h))
-          ∙ sym (all_above n x.ticket x.ticket ws r.2 (omega arith)) ∙ sym (above_cons x.ticket x ws false (not_above x.ticket x.ticket (omega arith))));
+          (all_above n x.ticket m ws r.2 (let h = ltb-true m x.ticket e in omega (arith, h))
+          ∙ sym (all_above n x.ticket x.ticket ws r.2 (omega arith)) ∙ sym (above_cons x.ticket x ws false (le-ltb x.ticket x.ticket (omega arith))));
       found = ap (λ (t : Bool). cond t (Some x) (find_waiter x.ticket ws)) (same_eq x.ticket);
     })
 next_cons n k m x w ws false e r p rest =
     let i = rest p in
-    let low = lower_of m x.ticket e in
+    let low = ltb-false m x.ticket e in
     let less : x.ticket < w.ticket = let h = i.higher in omega (arith, low, h) in
     record {
       higher = i.higher;
-      first = above_cons m x ws false e ∙ i.first ∙ ap (λ (xs : List Waiter). w ∷ xs) (sym (above_cons w.ticket x ws false (not_above w.ticket x.ticket (omega (arith, less)))));
+      first = above_cons m x ws false e ∙ i.first ∙ ap (λ (xs : List Waiter). w ∷ xs) (sym (above_cons w.ticket x ws false (le-ltb w.ticket x.ticket (omega (arith, less)))));
       found = ap (λ (t : Bool). cond t (Some x) (find_waiter w.ticket ws)) (other_eq w.ticket x.ticket less) ∙ i.found;
     }
 

@@ -1,7 +1,7 @@
 -- Why a call is refused, and that a call keeps the desk what its history makes.
 use Rattle.std.proofs.Common.{◌≡◌, ℕ, ◌+◌, ◌<◌, ◌≤◌, Bool, false, List, [], ◌∷◌, ◌++◌, length, Option, Some, None, refl, sym, ap, subst, arith, length-append}
 use Rattle.std.specs.Prelude.{nat_le, Result, Ok, Err, IfOk, IfErr}
-use Rattle.std.proofs.lemmas.Bool.Decides.{nat_tests}
+use Rattle.std.proofs.lemmas.Bool.{leb-false}
 use Rattle.stm_terms.specs.UnlessNoMemory.{RefusedAs}
 use Rattle.stm_store.specs.Tables.{Declared}
 use Rattle.stm_terms.specs.declared.kinds.Ty.{Ty}
@@ -49,9 +49,6 @@ pub refused_alike : (A B : Type 0) {E : Type 0} (no_memory : E) (o : Option E) (
 refused_alike A B no_memory None e h = h
 refused_alike A B no_memory (Some r) e h = ap (as_error B) (same_error e r (as_error A e) (as_error A r) refl refl h)
 
-fits_in : (limit n : ℕ) → nat_le limit n ≡ false → n < limit
-fits_in limit n e = grind (arith, nat_tests)
-
 module _ (table : List Declared) (checkpoint : Option CheckpointView) (limit : ℕ) (history : List Event) (m : Parts) (k : DeskInvariant table checkpoint limit history m) where
   abbrev full : Bool
   full = nat_le limit (length history)
@@ -64,7 +61,7 @@ module _ (table : List Declared) (checkpoint : Option CheckpointView) (limit : �
 
   pub ticket_left : full ≡ false → HasTicketLeft now
   ticket_left e =
-      let few : length history < limit = fits_in limit (length history) e in
+      let few : length history < limit = leb-false limit (length history) e in
       let small = k.small in
       let first : start.next ≤ max_next = start_next table checkpoint k.start in
       let low : now.next ≤ start.next + length history = next_le start history in
@@ -86,7 +83,7 @@ module _ (table : List Declared) (checkpoint : Option CheckpointView) (limit : �
   pub kept_move : (client : ℕ) (what : What) (new : Parts) → client < max_clients → full ≡ false → SubmitsWellTyped what → MovesBy what m new → DeskInvariant table checkpoint limit (history ++ event client what ∷ []) new
   kept_move client what new low e typed moves =
       let moved = moves now k.at in
-      let l : length history < limit = fits_in limit (length history) e in
+      let l : length history < limit = leb-false limit (length history) e in
       let s = k.small in
       let len : length (history ++ event client what ∷ []) ≡ length history + 1 = length-append history (event client what ∷ []) in
       record {

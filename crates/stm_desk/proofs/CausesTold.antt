@@ -1,9 +1,10 @@
 -- A stale block has a cause, and what the events write tells it.
-use Rattle.std.proofs.Common.{◌≡◌, ℕ, ◌+◌, ◌≤◌, Bool, true, false, not, ◌&&◌, ◌||◌, List, [], ◌∷◌, ◌++◌, Option, Some, None, IsSome, inl, inr, length, refl, sym, ap, subst, ◌∙◌, arith}
+use Rattle.std.proofs.Common.{◌≡◌, ℕ, ◌+◌, ◌≤◌, Bool, true, false, not, ◌&&◌, List, [], ◌∷◌, ◌++◌, Option, Some, None, IsSome, inl, inr, length, refl, sym, ap, subst, ◌∙◌, arith}
 use Rattle.std.specs.Prelude.{nat_eq, is_some, IsSomeAnd}
 use Rattle.std.specs.List.{list_any}
 use Rattle.std.proofs.lemmas.Bool.Decides.{nat_tests}
 use Rattle.std.proofs.lemmas.List.Folds.{list_any-append}
+use Rattle.std.proofs.lemmas.Bool.{or_from}
 use Rattle.stm_terms.specs.declared.kinds.Ty.{Ty}
 use Rattle.stm_terms.specs.declared.values.Value.{Value}
 use Rattle.stm_terms.specs.declared.verdicts.Verdict.{Verdict}
@@ -158,9 +159,6 @@ not_woken s (Cancelled t) i x r f e g = refl
 not_woken s (DeclaredLate name kind value) i x r f e g = refl
 not_woken s (Labelled t label) i x r f e g = refl
 
-neither : (a b : Bool) → a ≡ false → b ≡ false → (a || b) ≡ false
-neither a b g h = rw (g, h) refl
-
 never_woken : (reads : List (ℕ × Value)) (s : Slow) (es : List Event) (i : ℕ) (x : Value) → s.rule ≡ Changed → FitFrom s es → AreRead reads (under s.store) → find i reads ≡ Some x → cause_told reads es ≡ None → list_any (nat_eq i) (waking_from s es) ≡ false
 never_woken reads s [] i x r f h there none = refl
 never_woken reads s (e ∷ es) i x r f h there none =
@@ -168,13 +166,13 @@ never_woken reads s (e ∷ es) i x r f h there none =
     let q = none_told (ticket_of e.what) (changes_told reads e.what) (cause_told reads es) none in
     let now = p.1 q.0 in
     list_any-append (nat_eq i) (waking_at s e.what) (waking_from (after s e.what) es)
-    ∙ neither (list_any (nat_eq i) (waking_at s e.what)) (list_any (nat_eq i) (waking_from (after s e.what) es))
+    ∙ or_from (list_any (nat_eq i) (waking_at s e.what)) (list_any (nat_eq i) (waking_from (after s e.what) es))
     (not_woken s e.what i x r f.0 (found_read i x reads (under s.store) h there) (found_read i x reads (under (after s e.what).store) now there))
     (never_woken reads (after s e.what) es i x (after-rule s e.what ∙ r) f.1 now there q.1)
 
 pub none_met : (woken is : List ℕ) → ((j : ℕ) → In j is → list_any (nat_eq j) woken ≡ false) → intersects woken is ≡ false
 none_met woken [] h = refl
-none_met woken (i ∷ is) h = neither (list_any (nat_eq i) woken) (intersects woken is) (h i (inl refl)) (none_met woken is (λ j m. h j (inr m)))
+none_met woken (i ∷ is) h = or_from (list_any (nat_eq i) woken) (intersects woken is) (h i (inl refl)) (none_met woken is (λ j m. h j (inr m)))
 
 -- ---- the last delivery of a waiting block
 itself : (t : ℕ) → nat_eq t t ≡ true
@@ -268,5 +266,5 @@ is_caused_before start history t w s k since =
           let before : intersects since.since.woken looks ≡ false = (let a = since.store in let b = since.block in rw (a, b) (fresh h)) in
           let later : intersects (waking_from start history) looks ≡ false = quiet w.block s.store_then had.0 start history verdict k.rule fit (read h) none in
           sym stale ∙ ap (λ (woken : List ℕ). intersects woken looks) since.woken ∙ meets-append since.since.woken (waking_from start history) looks
-          ∙ neither (intersects since.since.woken looks) (intersects (waking_from start history) looks) before later);
+          ∙ or_from (intersects since.since.woken looks) (intersects (waking_from start history) looks) before later);
     }

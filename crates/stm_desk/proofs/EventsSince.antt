@@ -1,6 +1,7 @@
 -- The events after the last delivery to a ticket, what they write, and where the cause is looked for.
-use Rattle.std.proofs.Common.{◌≡◌, ℕ, Bool, true, false, ◌||◌, cond, List, [], ◌∷◌, ◌++◌, Option, Some, None, refl, subst}
+use Rattle.std.proofs.Common.{◌≡◌, ℕ, Bool, true, false, cond, List, [], ◌∷◌, ◌++◌, Option, Some, None, refl, subst}
 use Rattle.std.specs.Prelude.{nat_eq}
+use Rattle.std.proofs.lemmas.Bool.{or_left, or_parts, or_right}
 use Rattle.stm_terms.specs.declared.values.Value.{Value}
 use Rattle.stm_terms.specs.Changes.{find}
 use Rattle.stm_store.specs.FreshReferences.{HasNumber, AreWritable}
@@ -10,26 +11,15 @@ use Rattle.stm_events.specs.SlowDesk.{Slow, after, state_from}
 use Rattle.stm_desk.specs.Reasons.{first_cause, cause_since_delivery}
 use Rattle.stm_desk.specs.ReasonsTold.{events_since}
 
-or_false : (a b : Bool) → (a || b) ≡ false → (a ≡ false) × (b ≡ false)
-or_false true b e = absurd (cc)
-or_false false b e = (refl, e)
-
-or_true : (a b : Bool) → b ≡ true → (a || b) ≡ true
-or_true true b e = refl
-or_true false b e = e
-
-here_true : (a b : Bool) → a ≡ true → (a || b) ≡ true
-here_true a b e = rw e refl
-
 -- ---- no delivery
 pub none_since : (t : ℕ) (h : List Event) → is_installed t h ≡ false → events_since t h ≡ None
 none_since t [] n = refl
-none_since t (x ∷ h) n = let p = or_false (installs_to t x.what) (is_installed t h) n in rw (p.1, p.0) refl
+none_since t (x ∷ h) n = let p = or_parts (installs_to t x.what) (is_installed t h) n in rw (p.1, p.0) refl
 
 -- ---- a delivery in the middle
 pub installed_mid : (t : ℕ) (before : List Event) (e : Event) (later : List Event) → installs_to t e.what ≡ true → is_installed t (before ++ e ∷ later) ≡ true
-installed_mid t [] e later d = here_true (installs_to t e.what) (is_installed t later) d
-installed_mid t (x ∷ before) e later d = or_true (installs_to t x.what) (is_installed t (before ++ e ∷ later)) (installed_mid t before e later d)
+installed_mid t [] e later d = or_left (installs_to t e.what) (is_installed t later) d
+installed_mid t (x ∷ before) e later d = or_right (installs_to t x.what) (is_installed t (before ++ e ∷ later)) (installed_mid t before e later d)
 
 pub since_delivery : (t : ℕ) (before : List Event) (e : Event) (later : List Event) → installs_to t e.what ≡ true → is_installed t later ≡ false → events_since t (before ++ e ∷ later) ≡ Some later
 since_delivery t [] e later d n = rw (n, d) refl

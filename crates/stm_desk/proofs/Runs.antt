@@ -2,6 +2,7 @@
 use Rattle.std.proofs.Common.{◌≡◌, ℕ, suc, ◌+◌, ◌-◌, ◌<◌, ◌≤◌, Bool, true, false, not, cond, List, [], ◌∷◌, ◌++◌, filter, length, Option, Some, None, refl, sym, ap, subst, ◌∙◌, arith, append_assoc, length-append, add-zero}
 use Rattle.std.specs.Prelude.{nat_eq, is_some}
 use Rattle.std.proofs.lemmas.List.Elements.{filter-append}
+use Rattle.std.proofs.lemmas.Bool.{not-false}
 use Rattle.stm_store.specs.declared.cell.Cell.{Cell}
 use Rattle.stm_events.specs.declared.event.What.{What}
 use Rattle.stm_terms.specs.declared.verdicts.Verdict.{Verdict}
@@ -154,10 +155,6 @@ not_found : (p : Waiter → Bool) (b : Bool) (w : Waiter) (o : Option Waiter) �
 not_found p true w o e h = cc
 not_found p false w o e h = (e, h)
 
-unnot : (b : Bool) → not b ≡ false → b ≡ true
-unnot true e = refl
-unnot false e = cc
-
 blocks_is : (v : Verdict) → not (is_blocks v) ≡ false → v ≡ Blocks
 blocks_is (Commits writes news result) e = cc
 blocks_is (Throws f) e = cc
@@ -172,7 +169,7 @@ block_step : (b : Bool) (store : List Cell) (w one : Waiter) (o : Option Waiter)
     → (o ≡ Some one → (is_current one ≡ true) × (ends (verdict_on store one.block) ≡ false)) → cond b (Some w) o ≡ Some one → (is_current one ≡ true) × (ends (verdict_on store one.block) ≡ false)
 block_step true store w one o d e more f =
     let i : w ≡ one = cc in
-    subst (λ (x : Waiter). (is_current x ≡ true) × (ends (verdict_on store x.block) ≡ false)) i (unnot (is_current w) d, e)
+    subst (λ (x : Waiter). (is_current x ≡ true) × (ends (verdict_on store x.block) ≡ false)) i (not-false (is_current w) d, e)
 block_step false store w one o d e more f = more f
 
 block_each : (store : List Cell) (ws : List Waiter) (t : ℕ) (one : Waiter) → lowest is_due ws ≡ None → lowest (can_end store) ws ≡ None → find_waiter t ws ≡ Some one → (is_current one ≡ true) × (ends (verdict_on store one.block) ≡ false)

@@ -1,7 +1,8 @@
 -- One event of an order of work.
-use Rattle.std.proofs.Common.{◌≡◌, ℕ, ◌+◌, ◌<◌, ◌≤◌, Bool, true, false, not, ◌&&◌, cond, List, length, Option, Some, None, Ok, Err, refl, sym, ap, subst, ◌∙◌, arith}
-use Rattle.std.specs.Prelude.{is_some, nat_le}
+use Rattle.std.proofs.Common.{◌≡◌, ℕ, ◌+◌, ◌<◌, ◌≤◌, Bool, true, false, cond, List, length, Option, Some, None, Ok, Err, refl, sym, ap, subst, ◌∙◌, arith}
+use Rattle.std.specs.Prelude.{is_some}
 use Rattle.std.proofs.lemmas.Bool.Decides.{nat_tests}
+use Rattle.std.proofs.lemmas.Bool.{and_parts, le-leb, not-true}
 use Rattle.stm_terms.specs.declared.values.Value.{Value}
 use Rattle.stm_terms.specs.declared.verdicts.Verdict.{Verdict}
 use Rattle.stm_terms.specs.UnlessNoMemory.{RefusedAs}
@@ -24,10 +25,6 @@ use Rattle.stm_desk.specs.Events.{finish_of}
 use Rattle.stm_desk.specs.Refusals.{finish_refusal}
 use Rattle.stm_desk.specs.Settling.{IsFull}
 use Rattle.stm_desk.specs.Steps.{verdict_there, ready_there, InstallsNext, FinishesNext, IsNextEvent, StopsFor, StopsFinish, finish_why}
-
-unnot : (b : Bool) → not b ≡ true → b ≡ false
-unnot true e = cc
-unnot false e = refl
 
 room_of : (d : DeskView) → is_full d ≡ false → length d.history < d.limit
 room_of d e = grind (arith, nat_tests)
@@ -79,16 +76,12 @@ record Ends (d : DeskView) (t : ℕ) : Type 0 where
 
 verdict_by : (o : Option Verdict) → ends o ≡ true → (v : Verdict) × (o ≡ Some v) × (is_blocks v ≡ false)
 verdict_by None h = cc
-verdict_by (Some v) h = (v, refl, unnot (is_blocks v) h)
-
-both_true : (a b : Bool) → (a && b) ≡ true → (a ≡ true) × (b ≡ true)
-both_true true b e = (refl, e)
-both_true false b e = cc
+verdict_by (Some v) h = (v, refl, not-true (is_blocks v) h)
 
 ends_by : (d : DeskView) (t : ℕ) (o : Option Waiter) → find_waiter t (state_of d).waiters ≡ o → ready_there (state_of d).store o ≡ true → Ends d t
 ends_by d t None f r = cc
 ends_by d t (Some w) f r =
-    let a = both_true (is_current w) (can_end (state_of d).store w) r in
+    let a = and_parts (is_current w) (can_end (state_of d).store w) r in
     let v = verdict_by (verdict_on (state_of d).store w.block) a.1 in
     record { one = w; waits = f; current = a.0; verdict = v.0; verdict_is = v.1; ends = v.2 }
 
@@ -123,9 +116,6 @@ not_full_by : {A : Type 0} (a b : Bool) (x : A) → RefusedAs finish.NoMemory (l
 not_full_by true b x h = cc
 not_full_by false b x h = refl
 
-le_true : (a b : ℕ) → a ≤ b → nat_le a b ≡ true
-le_true a b l = grind (arith, nat_tests)
-
 same_verdict : (v u : Verdict) → Some v ≡ Some u → v ≡ u
 same_verdict v u h = cc
 
@@ -142,7 +132,7 @@ next_finish d new client t made ready e plan r = λ next n.
     record {
       what = finish_of t made;
       comes = g;
-      fits = le_true (length s.store + length (made_by made.verdict)) max_cells a.room;
+      fits = le-leb (length s.store + length (made_by made.verdict)) max_cells a.room;
       grown = e;
       room = room_of d (not_full_by (is_full d) (overflows s.store (Some f.verdict)) made (subst (λ (o : Option FinishError). RefusedAs finish.NoMemory o (Ok made)) (end_told d t f) r));
       finishing = refl;
@@ -187,7 +177,7 @@ why_finish_by d t false true finish.CellsFull f next n p q k s h = record {
   what = finish_at d t f.verdict;
   left = end_next d t f next n;
   room = room_of d p;
-  crowded = unnot _ q;
+  crowded = not-true _ q;
 }
 why_finish_by d t false false finish.CellsFull f next n p q k s h = cc
 why_finish_by d t a b finish.NoMemory f next n p q k s h = tt

@@ -2,6 +2,7 @@
 use Rattle.std.proofs.Common.{◌≡◌, ℕ, ◌<◌, Bool, true, false, not, ◌||◌, ◌&&◌, cond, List, [], ◌∷◌, length, Option, Some, None, refl, sym, ap, subst, ◌∙◌, arith}
 use Rattle.std.specs.Prelude.{nat_lt, option_map}
 use Rattle.std.proofs.lemmas.Bool.Decides.{nat_tests}
+use Rattle.std.proofs.lemmas.Bool.{and_from, lt-ltb, not-false}
 use Rattle.stm_terms.specs.declared.verdicts.Verdict.{Verdict}
 use Rattle.stm_store.specs.declared.cell.Cell.{Cell}
 use Rattle.stm_events.specs.Laws.{AreRising}
@@ -41,17 +42,10 @@ none_at p s h = by (lowest p s.waiters) h where
   by None e = refl
   by (Some w) e = cc
 
-unnot : (b : Bool) → not b ≡ false → b ≡ true
-unnot true e = refl
-unnot false e = cc
-
 not_lower : (t u : ℕ) → t < u → nat_lt u t ≡ false
 not_lower t u l = grind (arith, nat_tests)
 
-lower : (t u : ℕ) → t < u → nat_lt t u ≡ true
-lower t u l = grind (arith, nat_tests)
-
--- ---- the lower one of the lowest that is new or stale and the lowest that could finish
+-- ---- the lt-ltb one of the lowest that is new or stale and the lowest that could finish
 abbrev tickets_of : Option Waiter → Option ℕ
 tickets_of o = option_map (λ w. w.ticket) o
 
@@ -68,7 +62,7 @@ no_lower w (Some x) above = rw (not_lower w.ticket x.ticket (above x refl)) refl
 
 all_lower : (w : Waiter) (d : Option Waiter) → ((x : Waiter) → d ≡ Some x → w.ticket < x.ticket) → if_lower (tickets_of d) (Some w.ticket) ≡ None
 all_lower w None above = refl
-all_lower w (Some x) above = rw (lower w.ticket x.ticket (above x refl)) refl
+all_lower w (Some x) above = rw (lt-ltb w.ticket x.ticket (above x refl)) refl
 
 lower_step : (c b z : Bool) (w : Waiter) (d r n : Option Waiter) → is_due w ≡ not c → z ≡ true → ((x : Waiter) → d ≡ Some x → w.ticket < x.ticket) → ((x : Waiter) → r ≡ Some x → w.ticket < x.ticket)
     → if_lower (tickets_of d) (tickets_of r) ≡ ticket_if_due n
@@ -82,7 +76,7 @@ due_lower : (store : List Cell) (n k : ℕ) (ws : List Waiter) → AreRising n k
 due_lower store n k [] r = refl
 due_lower store n k (w ∷ ws) r =
     lower_step (is_current w) (can_end store w) (nat_lt 0 w.ticket) w (lowest is_due ws) (lowest (ready_above store) ws) (lowest (is_next store) ws) refl
-    (lower 0 w.ticket (let l : k < w.ticket = r.0 in omega arith))
+    (lt-ltb 0 w.ticket (let l : k < w.ticket = r.0 in omega arith))
     (λ x e. (lowest_found is_due n w.ticket ws x r.2 e).above) (λ x e. (lowest_found (ready_above store) n w.ticket ws x r.2 e).above) (due_lower store n w.ticket ws r.2)
 
 pub due_below : (s : Slow) → IsPossible s → if_lower (next_due s) (next_ready 0 s) ≡ due_in Lowest s
@@ -98,7 +92,7 @@ end_step true false true w r n h z more e = more e
 end_lower : (store : List Cell) (n k : ℕ) (ws : List Waiter) → AreRising n k ws → ticket_if_due (lowest (is_next store) ws) ≡ None → tickets_of (lowest (ready_above store) ws) ≡ tickets_of (lowest (is_next store) ws)
 end_lower store n k [] r e = refl
 end_lower store n k (w ∷ ws) r e =
-    end_step (is_current w) (can_end store w) (nat_lt 0 w.ticket) w (lowest (ready_above store) ws) (lowest (is_next store) ws) refl (lower 0 w.ticket (let l : k < w.ticket = r.0 in omega arith)) (end_lower store n w.ticket ws r.2) e
+    end_step (is_current w) (can_end store w) (nat_lt 0 w.ticket) w (lowest (ready_above store) ws) (lowest (is_next store) ws) refl (lt-ltb 0 w.ticket (let l : k < w.ticket = r.0 in omega arith)) (end_lower store n w.ticket ws r.2) e
 
 -- where the next thing isn't an evaluation, the lowest block that could finish is the next to finish
 pub end_is_ready : (o : WorkOrder) (s : Slow) → IsPossible s → due_in o s ≡ None → next_ready 0 s ≡ end_in o s
@@ -156,12 +150,8 @@ pub record FinishesAt (o : WorkOrder) (s : Slow) (t : ℕ) : Type 0 where
   pub ready : ready_there s.store (find_waiter t s.waiters) ≡ true
   pub next : FinishesNext (order_of o) s t
 
-both : (a b : Bool) → a ≡ true → b ≡ true → (a && b) ≡ true
-both true b e f = f
-both false b e f = cc
-
 ready_by : (store : List Cell) (x : Option Waiter) (w : Waiter) → x ≡ Some w → is_due w ≡ false → can_end store w ≡ true → ready_there store x ≡ true
-ready_by store x w e d c = ap (ready_there store) e ∙ both (is_current w) (can_end store w) (unnot (is_current w) d) c
+ready_by store x w e d c = ap (ready_there store) e ∙ and_from (is_current w) (can_end store w) (not-false (is_current w) d) c
 
 finishes_rounds : (s : Slow) (t : ℕ) → IsPossible s → next_due s ≡ None → next_settled s ≡ Some t → FinishesAt Rounds s t
 finishes_rounds s t p n h =

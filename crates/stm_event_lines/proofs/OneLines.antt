@@ -6,6 +6,7 @@ use Rattle.std.specs.Char.{digit_char}
 use Rattle.std.proofs.lemmas.Fmt.{decimal_is_IsNumeral}
 use Rattle.std.proofs.lemmas.Str.Parse.{digit_at}
 use Rattle.std.proofs.lemmas.Bool.Decides.{nat_tests}
+use Rattle.std.proofs.lemmas.Bool.{and_parts, or_parts}
 use Rattle.json.specs.Print.{escape_letter, escape_byte, escape, quoted}
 use Rattle.serde_json.specs.Data.{unsigned, negative, float, Data, null, boolean, number, string, array, object, Items, no_items, item, Members, no_members, member}
 use Rattle.serde_json.specs.Written.{compact_text, items_text, members_text, comma_if}
@@ -73,13 +74,9 @@ abbrev pub is_ascii_text : List ℕ → Bool
 is_ascii_text [] = true
 is_ascii_text (x ∷ xs) = nat_lt x 128 && is_ascii_text xs
 
-both : (a b : Bool) → a && b ≡ true → (a ≡ true) × (b ≡ true)
-both true b e = (refl, e)
-both false b e = absurd cc
-
 escaped : (s : List ℕ) → is_ascii_text s ≡ true → IsOneLine (escape s)
 escaped [] l = tt
-escaped (x ∷ s) l = let p = both (nat_lt x 128) (is_ascii_text s) l in one_append (escape_byte x) (escape s) (byte x (let q = p.0 in grind (arith, nat_tests))) (escaped s p.1)
+escaped (x ∷ s) l = let p = and_parts (nat_lt x 128) (is_ascii_text s) l in one_append (escape_byte x) (escape s) (byte x (let q = p.0 in grind (arith, nat_tests))) (escaped s p.1)
 
 in_quotes : (s : List ℕ) → is_ascii_text s ≡ true → IsOneLine (quoted s)
 in_quotes s l = (omega arith, omega arith, one_append (escape s) (34 ∷ []) (escaped s l) (omega arith, omega arith, tt))
@@ -113,15 +110,11 @@ abbrev has_control : List ℕ → Bool
 has_control [] = false
 has_control (x ∷ xs) = nat_lt x 32 || has_control xs
 
-neither : (a b : Bool) → a || b ≡ false → (a ≡ false) × (b ≡ false)
-neither true b e = absurd cc
-neither false b e = (refl, e)
-
 word : (xs : List ℕ) → is_ascii_text xs ≡ true → has_control xs ≡ false → IsOneLine xs
 word [] l f = tt
 word (x ∷ xs) l f =
-    let p = both (nat_lt x 128) (is_ascii_text xs) l in
-    let q = neither (nat_lt x 32) (has_control xs) f in
+    let p = and_parts (nat_lt x 128) (is_ascii_text xs) l in
+    let q = or_parts (nat_lt x 32) (has_control xs) f in
     let low : x < 128 = (let t = p.0 in grind (arith, nat_tests)) in
     let high : 32 ≤ x = (let t = q.0 in grind (arith, nat_tests)) in
     (high, low, word xs p.1 q.1)

@@ -4,6 +4,7 @@ use Rattle.std.specs.Prelude.{◌&&◌, nat_lt}
 use Rattle.std.specs.List.{list_all}
 use Rattle.std.specs.Str.{IsAscii}
 use Rattle.std.proofs.lemmas.Bool.Decides.{nat_tests}
+use Rattle.std.proofs.lemmas.Bool.{and_from, and_parts}
 use Rattle.serde_json.specs.Data.{number}
 use Rattle.serde_json.specs.Find.{of_integer}
 use Rattle.serde_json.specs.View.{items_of}
@@ -67,20 +68,12 @@ ascii_type t = ascii_refs t.base t.refs
 
 -- ---- a name
 
-ascii_and : (a b : Bool) → a ≡ true → b ≡ true → a && b ≡ true
-ascii_and true b e f = f
-ascii_and false b e f = absurd cc
-
-and_parts : (a b : Bool) → a && b ≡ true → (a ≡ true) × (b ≡ true)
-and_parts true b e = (refl, e)
-and_parts false b e = absurd cc
-
 word_ascii : (x : ℕ) → is_word_byte x ≡ true → nat_lt x 128 ≡ true
 word_ascii x h = grind (arith, nat_tests)
 
 words_ascii : (xs : List ℕ) → list_all is_word_byte xs ≡ true → is_ascii_text xs ≡ true
 words_ascii [] h = refl
-words_ascii (x ∷ xs) h = let p = and_parts (is_word_byte x) (list_all is_word_byte xs) h in ascii_and (nat_lt x 128) (is_ascii_text xs) (word_ascii x p.0) (words_ascii xs p.1)
+words_ascii (x ∷ xs) h = let p = and_parts (is_word_byte x) (list_all is_word_byte xs) h in and_from (nat_lt x 128) (is_ascii_text xs) (word_ascii x p.0) (words_ascii xs p.1)
 
 four : (a b c d : Bool) → IsTrue (a && b && c && d) → b ≡ true
 four true true c d h = refl
@@ -98,7 +91,7 @@ seen_ascii x h = grind (arith, nat_tests)
 
 all_seen : (xs : List ℕ) → list_all is_label_byte xs ≡ true → is_ascii_text xs ≡ true
 all_seen [] h = refl
-all_seen (x ∷ xs) h = let p = and_parts (is_label_byte x) (list_all is_label_byte xs) h in ascii_and (nat_lt x 128) (is_ascii_text xs) (seen_ascii x p.0) (all_seen xs p.1)
+all_seen (x ∷ xs) h = let p = and_parts (is_label_byte x) (list_all is_label_byte xs) h in and_from (nat_lt x 128) (is_ascii_text xs) (seen_ascii x p.0) (all_seen xs p.1)
 
 three : (a b c : Bool) → IsTrue (a && b && c) → a ≡ true
 three true b c h = refl
@@ -112,7 +105,7 @@ ascii_label label h = all_seen label (three _ _ _ h)
 
 ascii_tested : (xs : List ℕ) → IsAscii xs → is_ascii_text xs ≡ true
 ascii_tested [] h = refl
-ascii_tested (x ∷ xs) h = ascii_and (nat_lt x 128) (is_ascii_text xs) (let k = h zero in grind (arith, nat_tests)) (ascii_tested xs (λ i. h (suc i)))
+ascii_tested (x ∷ xs) h = and_from (nat_lt x 128) (is_ascii_text xs) (let k = h zero in grind (arith, nat_tests)) (ascii_tested xs (λ i. h (suc i)))
 
 tokens_ascii : (text : List ℕ) (r : Result (List Token) ParseFault) (t : raw.RawAct) → tokens_of text ≡ r → of_tokens block_reader text r ≡ Ok t → IsAscii text
 tokens_ascii text (Ok ts) t e f = cut_ascii text ts e

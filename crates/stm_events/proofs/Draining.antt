@@ -2,6 +2,7 @@
 -- later, and owes at most that.
 use Rattle.std.proofs.Common.{◌≡◌, ℕ, zero, suc, ◌+◌, ◌≤◌, Bool, true, false, not, ◌||◌, cond, List, [], ◌∷◌, map, length, Option, Some, None, refl, sym, ap, subst, ◌∙◌, arith}
 use Rattle.std.specs.Prelude.{◌≢◌, is_some}
+use Rattle.std.proofs.lemmas.Bool.{not-false}
 use Rattle.stm_terms.specs.declared.verdicts.Verdict.{Verdict}
 use Rattle.stm_terms.specs.declared.verdicts.Verdict.TheVariants.{Commits, Throws, Blocks}
 use Rattle.stm_events.specs.declared.event.What.{What}
@@ -161,10 +162,6 @@ ends_none : (o : Option Waiter) → MayBeBehind None o → o ≡ None
 ends_none None m = refl
 ends_none (Some w) m = absurd m
 
-unnot : (b : Bool) → not b ≡ false → b ≡ true
-unnot true e = refl
-unnot false e = cc
-
 blocks_is : (v : Verdict) → not (is_blocks v) ≡ false → v ≡ Blocks
 blocks_is (Commits writes news result) e = cc
 blocks_is (Throws f) e = cc
@@ -173,7 +170,7 @@ blocks_is Blocks e = refl
 rest_blocks : (s : Slow) → IsPossible s → IsTypedState s → lowest is_due s.waiters ≡ None → lowest (can_end s.store) s.waiters ≡ None → AllBlock s
 rest_blocks s p k n m = λ t w f.
     let v = typed_verdict s t w p k f in (
-      unnot (is_current w) (lowest_none is_due s.waiters t w n f),
+      not-false (is_current w) (lowest_none is_due s.waiters t w n f),
       v.1 ∙ ap Some (blocks_is v.0 (ap ends (sym v.1) ∙ lowest_none (can_end s.store) s.waiters t w m f)),
     )
 

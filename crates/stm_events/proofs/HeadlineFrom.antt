@@ -1,5 +1,6 @@
 -- The promise of the scheduler over a history that begins from any possible state.
 use Rattle.std.proofs.Common.{◌≡◌, ℕ, Bool, true, false, not, ◌||◌, List, ◌++◌, Option, Some, None, refl, sym, ap, subst, ◌∙◌}
+use Rattle.std.proofs.lemmas.Bool.{not-true}
 use Rattle.stm_store.specs.declared.cell.Cell.{Cell}
 use Rattle.stm_events.specs.declared.event.Event.{Event}
 use Rattle.stm_events.specs.Headline.{waking_from}
@@ -15,10 +16,6 @@ twice : (a : Bool) → not (not a) ≡ a
 twice true = refl
 twice false = refl
 
-from_current : (a : Bool) → not a ≡ true → a ≡ false
-from_current true e = absurd cc
-from_current false e = refl
-
 -- a block is stale exactly if it isn't current
 stale_is : (w : Waiter) (s : Since) → w.since ≡ Some s → not (is_current w) ≡ is_stale_since w.block s
 stale_is w s e = ap not (ap (current_since w.block) e) ∙ twice (is_stale_since w.block s)
@@ -26,7 +23,7 @@ stale_is w s e = ap not (ap (current_since w.block) e) ∙ twice (is_stale_since
 module _ (start : Slow) (history : List Event) (p : IsPossible start) (l : LegalFrom start history) where
   present_by : (t : ℕ) (w : Waiter) (s : Since) → find_waiter t (state_from start history).waiters ≡ Some w → w.since ≡ Some s → is_current w ≡ true → verdict_on (state_from start history).store w.block ≡ verdict_on s.store_then w.block
   present_by t w s f e c =
-      let n : is_stale_since w.block s ≡ false = from_current (is_stale_since w.block s) (sym (ap (current_since w.block) e) ∙ c) in
+      let n : is_stale_since w.block s ≡ false = not-true (is_stale_since w.block s) (sym (ap (current_since w.block) e) ∙ c) in
       current_verdict (state_from start history) t w s (possible_from start history p l) f e n
 
   marked_here : (t : ℕ) (w : Waiter) (s : Since) → find_waiter t (state_from start history).waiters ≡ Some w → w.since ≡ Some s → (k : since.IsSinceFrom start history t w.block s) → IsMarkedRightlyFrom start history t w k.delivery

@@ -1,7 +1,8 @@
 -- What settling does next is allowed, if the store has room for its new variables.
-use Rattle.std.proofs.Common.{◌≡◌, ℕ, ◌+◌, ◌<◌, ◌≤◌, Bool, true, false, cond, not, List, [], ◌∷◌, length, Option, Some, None, refl, sym, subst, arith}
+use Rattle.std.proofs.Common.{◌≡◌, ℕ, ◌+◌, ◌<◌, ◌≤◌, Bool, true, false, cond, List, [], ◌∷◌, length, Option, Some, None, refl, sym, subst, arith}
 use Rattle.std.specs.Prelude.{nat_eq, IsSomeAnd}
 use Rattle.std.proofs.lemmas.Bool.Decides.{nat_tests}
+use Rattle.std.proofs.lemmas.Bool.{not-false, not-true}
 use Rattle.stm_terms.specs.declared.verdicts.Verdict.{Verdict}
 use Rattle.stm_store.specs.Cells.{made_by}
 use Rattle.stm_events.specs.declared.event.What.{What}
@@ -53,18 +54,10 @@ abbrev pub IsAllowed : Slow → Option What → Type 0
 IsAllowed s None = Unit {0}
 IsAllowed s (Some what) = has_cells s what ≡ true → Allows s what
 
-not_true : (b : Bool) → not b ≡ true → b ≡ false
-not_true true e = cc
-not_true false e = refl
-
-not_false : (b : Bool) → not b ≡ false → b ≡ true
-not_false true e = refl
-not_false false e = cc
-
 pub installs_next : (s : Slow) (w : Waiter) (v : Option Verdict) → find_waiter w.ticket s.waiters ≡ Some w → is_due w ≡ true → verdict_on s.store w.block ≡ v → IsAllowed s (installing w.ticket v)
 installs_next s w None f h e = tt
 installs_next s w (Some v) f h e = λ room.
-    let may : MayInstall s w v = record { not_current = not_true (is_current w) h; verdict_is = e } in
+    let may : MayInstall s w v = record { not_current = not-true (is_current w) h; verdict_is = e } in
     subst (λ (o : Option Waiter). IsSomeAnd o (λ x. MayInstall s x v)) (sym f) may
 
 room_by : (s : Slow) (t : ℕ) (v : Verdict) (stale : List ℕ) → has_cells s (Finished t v (length s.store) stale) ≡ true → length s.store + length (made_by v) ≤ max_cells
@@ -75,9 +68,9 @@ ends_next s w None f h g e = tt
 ends_next s w (Some v) f h g e = λ room.
     let stale = stale_after (waking s.rule s.store v) (without_waiter w.ticket s.waiters) in
     let may : MayFinish s w.ticket w v (length s.store) stale = record {
-      current = not_false (is_current w) h;
+      current = not-false (is_current w) h;
       verdict_is = e;
-      ends = not_true (is_blocks v) g;
+      ends = not-true (is_blocks v) g;
       first_new = refl;
       room = room_by s w.ticket v stale room;
       listed = refl;

@@ -3,6 +3,7 @@ use Rattle.std.proofs.Common.{◌≡◌, ℕ, ◌<◌, ◌≤◌, Bool, true, fa
 use Rattle.std.specs.Prelude.{nat_eq, option_map, IsSomeAnd}
 use Rattle.std.proofs.lemmas.Bool.Decides.{nat_tests}
 use Rattle.std.proofs.lemmas.List.{append_assoc, append-nil}
+use Rattle.std.proofs.lemmas.Bool.{or_from}
 use Rattle.stm_terms.specs.declared.verdicts.Verdict.{Verdict}
 use Rattle.stm_store.specs.declared.cell.Cell.{Cell}
 use Rattle.stm_check.specs.TypedBlock.{Block}
@@ -61,11 +62,8 @@ waking-push s (d ∷ es) e =
     ap (λ (xs : List ℕ). waking_at s d.what ++ xs) (waking-push (after s d.what) es e)
     ∙ sym (append_assoc (waking_at s d.what) (waking_from (after s d.what) es) (waking_at (state_from (after s d.what) es) e.what))
 
-neither : (a b : Bool) → a ≡ false → b ≡ false → (a || b) ≡ false
-neither a b g h = rw (g, h)
-
 later_none : (h : List Event) (e : Event) (t : ℕ) → installs_to t e.what ≡ false → is_installed t h ≡ false → is_installed t (h ++ e ∷ []) ≡ false
-later_none h e t n k = installed-push t h e ∙ neither (is_installed t h) (installs_to t e.what) k n
+later_none h e t n k = installed-push t h e ∙ or_from (is_installed t h) (installs_to t e.what) k n
 
 -- another event for the block of a ticket
 abbrev delivery-push : (h : List Event) (e : Event) (t : ℕ) → installs_to t e.what ≡ false → LastDelivery h t → LastDelivery (h ++ e ∷ []) t
@@ -75,7 +73,7 @@ delivery-push h e t n d = record {
   verdict = d.verdict;
   later = d.later ++ e ∷ [];
   whole = ap (λ (xs : List Event). xs ++ e ∷ []) d.whole ∙ append_assoc d.before (record { client = d.client; what = Installed t d.verdict } ∷ d.later) (e ∷ []);
-  last = installed-push t d.later e ∙ neither (is_installed t d.later) (installs_to t e.what) d.last n;
+  last = installed-push t d.later e ∙ or_from (is_installed t d.later) (installs_to t e.what) d.last n;
 }
 
 -- the state that the history leads to is that after the delivery, and then the later events
@@ -146,7 +144,7 @@ submit_by start true h c t u block w o e none more k =
     let q : record { ticket = t; block = block; since = None } ≡ w = cc in
     let z : is_installed u h ≡ false = subst (λ (x : ℕ). is_installed x h ≡ false) (sym (eqb-true u t e)) none in
     subst (λ (x : Waiter). IsTracked start (Pushed h c (Submitted t block)) u x.block x.since) q
-    (installed-push u h (by_client c (Submitted t block)) ∙ neither (is_installed u h) false z refl)
+    (installed-push u h (by_client c (Submitted t block)) ∙ or_from (is_installed u h) false z refl)
 submit_by start false h c t u block w o e none more k = tracks-quiet start h (by_client c (Submitted t block)) u w.block w.since refl refl (more k)
 
 -- ---- a delivery

@@ -4,6 +4,7 @@ use Rattle.std.specs.Prelude.{◌&&◌, nat_eq, slice_get, if◌then◌else◌}
 use Rattle.std.specs.Str.{bytes_eq}
 use Rattle.std.proofs.lemmas.Bool.Decides.{nat_tests}
 use Rattle.std.proofs.lemmas.List.{map-append, take_at}
+use Rattle.std.proofs.lemmas.Bool.{ne_eqb}
 use Rattle.stm_terms.specs.declared.kinds.Ty.{Ty}
 use Rattle.stm_terms.specs.declared.values.Value.{Value}
 use Rattle.stm_terms.specs.Names.{is_name_text}
@@ -20,10 +21,6 @@ use Rattle.stm_history.specs.Checking.{AreCells, MayBeNamed, with_name_of}
 use Rattle.stm_history_text.specs.HistoryText.{cell_lines, cell_lines_from}
 use Rattle.stm_history.specs.Judgement.{FitCells}
 use Rattle.stm_history.proofs.CutsAtLineFeeds.{cut_unique, no_feed}
-
--- ---- tests of numbers
-apart : (m n : ℕ) → (m ≡ n → ⊥) → nat_eq m n ≡ false
-apart m n h = grind (arith, nat_tests)
 
 itself : (n : ℕ) → nat_eq n n ≡ true
 itself n = grind (arith, nat_tests)
@@ -44,7 +41,7 @@ here : (i : ℕ) (d : Named) (ds : List Named) → d.number ≡ i → name_numbe
 here i d ds e = let same : nat_eq d.number i ≡ true = ap (λ (k : ℕ). nat_eq k i) e ∙ itself i in rw same refl
 
 later : (i : ℕ) (d : Named) (ds : List Named) → d.number ≢ i → name_numbered i (d ∷ ds) ≡ name_numbered i ds
-later i d ds h = let other : nat_eq d.number i ≡ false = apart d.number i h in rw other refl
+later i d ds h = let other : nat_eq d.number i ≡ false = ne_eqb d.number i h in rw other refl
 
 -- no variable of the number has a name
 pub unnamed : (i : ℕ) (names : List Named) → ((k : ℕ) (d : Named) → slice_get names k ≡ Some d → d.number ≢ i) → name_numbered i names ≡ None

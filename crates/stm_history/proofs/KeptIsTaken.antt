@@ -2,6 +2,7 @@
 use Rattle.std.proofs.Common.{◌≡◌, ℕ, ◌+◌, ◌≤◌, Bool, true, false, cond, List, [], ◌∷◌, ◌++◌, length, Option, Some, None, refl, sym, ap, subst, ◌∙◌, arith, append_assoc, append-nil, inl, inr}
 use Rattle.std.specs.Prelude.{◌&&◌, ◌||◌, nat_eq, nat_le}
 use Rattle.std.proofs.lemmas.Bool.Decides.{nat_tests}
+use Rattle.std.proofs.lemmas.Bool.{and_parts}
 use Rattle.stm_store.specs.declared.cell.Cell.{Cell}
 use Rattle.stm_store.specs.Naming.{Named, is_gapless, name_numbered}
 use Rattle.stm_store.specs.Tables.{Declared}
@@ -40,17 +41,13 @@ record IsSplit (n : ℕ) (line rest : List ℕ) : Type 0 where
   pub short : n + length line ≤ max_line
   pub after : are_short_after 0 rest ≡ true
 
-both : (a b : Bool) → a && b ≡ true → (a ≡ true) × (b ≡ true)
-both true b e = (refl, e)
-both false b e = absurd cc
-
 split_by : (n x : ℕ) (line rest : List ℕ) (b : Bool) → nat_eq x 10 ≡ b → (x ≡ 10 → ⊥) → (are_short_after (n + 1) (line ++ 10 ∷ rest) ≡ true → IsSplit (n + 1) line rest)
     → cond b (nat_le n max_line && are_short_after 0 (line ++ 10 ∷ rest)) (are_short_after (n + 1) (line ++ 10 ∷ rest)) ≡ true → IsSplit n (x ∷ line) rest
 split_by n x line rest true t k h e = let same : x ≡ 10 = grind (arith, nat_tests) in absurd (k same)
 split_by n x line rest false t k h e = let r = h e in record { short = omega (arith, r.short); after = r.after }
 
 split : (n : ℕ) (line rest : List ℕ) → NoFeed line → are_short_after n (line ++ 10 ∷ rest) ≡ true → IsSplit n line rest
-split n [] rest f e = let p = both (nat_le n max_line) (are_short_after 0 rest) e in let q = p.0 in record { short = grind (arith, nat_tests); after = p.1 }
+split n [] rest f e = let p = and_parts (nat_le n max_line) (are_short_after 0 rest) e in let q = p.0 in record { short = grind (arith, nat_tests); after = p.1 }
 split n (x ∷ line) rest f e = split_by n x line rest (nat_eq x 10) refl f.0 (split (n + 1) line rest f.1) e
 
 after_cells : (i : ℕ) (names : List Named) (cells : List Cell) (rest : List ℕ) → ((j : ℕ) → FitsName (name_numbered j names)) → FitCells cells → are_short_after 0 (cell_lines_from i names cells ++ rest) ≡ true → are_short_after 0 rest ≡ true

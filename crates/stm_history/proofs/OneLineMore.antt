@@ -2,6 +2,7 @@
 use Rattle.std.proofs.Common.{◌≡◌, ℕ, ◌+◌, ◌≤◌, ◌<◌, Bool, true, false, cond, List, [], ◌∷◌, ◌++◌, length, Some, None, refl, sym, ap, ◌∙◌, subst, arith, append_assoc, append-nil, length-append, inl, inr}
 use Rattle.std.specs.Prelude.{◌&&◌, nat_lt}
 use Rattle.std.proofs.lemmas.Bool.Decides.{nat_tests}
+use Rattle.std.proofs.lemmas.Bool.{and_from}
 use Rattle.stm_store.specs.declared.cell.Cell.{Cell}
 use Rattle.stm_store.specs.Cells.{IsStore, plains}
 use Rattle.stm_store.specs.Naming.{Named}
@@ -58,12 +59,8 @@ blocks_push : (names : List Named) (bs : List CheckpointBlock) (b : CheckpointBl
 blocks_push names [] b a f = (f, tt)
 blocks_push names (c ∷ bs) b a f = (a.0, blocks_push names bs b a.1 f)
 
-both_true : (x y : Bool) → x ≡ true → y ≡ true → (x && y) ≡ true
-both_true true y e f = f
-both_true false y e f = cc
-
 pub plain_push : (bs : List CheckpointBlock) (b : CheckpointBlock) → are_plain_blocks bs ≡ true → is_plain_block b.cause b.label ≡ true → are_plain_blocks (bs ++ b ∷ []) ≡ true
-plain_push [] b e f = both_true (is_plain_block b.cause b.label) true f refl
+plain_push [] b e f = and_from (is_plain_block b.cause b.label) true f refl
 plain_push (c ∷ bs) b e f = by (is_plain_block c.cause c.label) (are_plain_blocks bs) e (λ h. plain_push bs b h f) where
   by : (x y : Bool) → (x && y) ≡ true → (y ≡ true → are_plain_blocks (bs ++ b ∷ []) ≡ true) → (x && are_plain_blocks (bs ++ b ∷ [])) ≡ true
   by true y g k = k g

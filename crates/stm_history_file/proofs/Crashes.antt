@@ -1,6 +1,7 @@
 -- What a batch of events leaves.
 use Rattle.std.proofs.Common.{◌≡◌, ◌≢◌, ◌⊎◌, inl, inr, ⊎_elim, ℕ, ◌≤◌, List, [], ◌++◌, length, take, drop, Bool, true, false, refl, sym, ◌∙◌, ap, subst, arith}
 use Rattle.std.proofs.lemmas.List.{append-nil}
+use Rattle.std.proofs.lemmas.Bool.{cases_Bool}
 use Rattle.stm_events.specs.declared.event.Event.{Event}
 use Rattle.stm_events.specs.SlowDesk.{Slow}
 use Rattle.stm_history_text.specs.HistoryText.{history_text, event_lines}
@@ -8,7 +9,7 @@ use Rattle.stm_history_text.specs.Starts.{Start}
 use Rattle.stm_journal.specs.declared.sync_mode.SyncMode.{SyncMode}
 use Rattle.stm_journal.specs.declared.sync_mode.SyncMode.TheVariants.{Full, Append, Never}
 use Rattle.stm_journal.specs.Disk.{Disk, LeavesOnly}
-use Rattle.stm_journal.specs.Journal.{AtRest, MayLeave, HasAllOrNone, most_batch}
+use Rattle.stm_journal.specs.Journal.{AtRest, MayLeave, most_batch}
 use Rattle.stm_journal.specs.Journal as journal
 use Rattle.stm_journal.specs.Text.{recovered, dropped_count, IsWhole}
 use Rattle.stm_journal.proofs.Moments.{started, weaker}
@@ -66,11 +67,6 @@ if_synced Full zeros begun start history events c h = h (λ e. cc)
 if_synced Append zeros begun start history events c h = h (λ e. cc)
 if_synced Never zeros begun start history events c h = tt
 
--- ---- no file that is left is some other one
-either : (b : Bool) → (b ≡ true) ⊎ (b ≡ false)
-either true = inl refl
-either false = inr refl
-
 some_lines : (start : Start) (history : List Event) (c : List ℕ) → recovered c ≡ history_text start history → IsForeign c → ⊥
 some_lines start history c is other = not_empty start history [] (append-nil (history_text start history) ∙ sym is ∙ other.nothing)
 
@@ -101,7 +97,7 @@ module _ {D : Type 0} (disk : Disk D) (f : HistoryFile D) (start : Start) (histo
   module _ (new : D) (batch : List ℕ) (is : batch ≡ batch_text f.begun start events) (run : LeavesOnly disk f.journal.device new (MayBecome disk f start history events))
       (first : f.begun ≡ false → LeavesOnly disk f.journal.device new (IsBegunOrWhole batch)) where
     pub own_run : LeavesOnly disk f.journal.device new (IsOwn f.begun start events)
-    own_run = elim (either f.begun) [
+    own_run = elim (cases_Bool f.begun) [
       | inl begun ↦ weaker disk f.journal.device new (MayBecome disk f start history events) (IsOwn f.begun start events) run (own_if_left begun)
       | inr none ↦
           weaker disk f.journal.device new (IsBegunOrWhole batch) (IsOwn f.begun start events) (first none)
@@ -110,7 +106,7 @@ module _ {D : Type 0} (disk : Disk D) (f : HistoryFile D) (start : Start) (histo
 
   module _ (batch c : List ℕ) (is : batch ≡ batch_text f.begun start events) (h : MayBecome disk f start history events c) (first : f.begun ≡ false → IsBegunOrWhole batch c) where
     pub own_left : IsOwn f.begun start events c
-    own_left = elim (either f.begun) [
+    own_left = elim (cases_Bool f.begun) [
       | inl begun ↦ own_if_left begun c h
       | inr none ↦ own_first f.begun start events batch c none is (first none)
     ]

@@ -1,9 +1,9 @@
 -- A line more, and what a commit makes of it.
 use Rattle.std.proofs.Common.{◌≡◌, ◌≢◌, ⊎_elim, ℕ, ◌≤◌, List, [], ◌∷◌, ◌++◌, length, Bool, true, false, cond, IsTrue, Option, Some, None, Result, Ok, Err, OnOk, IfErr, refl, sym, ap, ap₂, ◌∙◌, subst, arith, append_assoc, append-nil}
-use Rattle.std.specs.Prelude.{◌⊎◌, nat_lt, MatchBool, IfOk}
-use Rattle.std.proofs.lemmas.Bool.Decides.{nat_tests}
+use Rattle.std.specs.Prelude.{◌⊎◌, MatchBool, IfOk}
 use Rattle.std.specs.Io.KnownBytes.{Appends, Keeps}
 use Rattle.std.proofs.KnownBytes.{Appends-kept, Appends-trans}
+use Rattle.std.proofs.lemmas.Bool.{le-ltb}
 use Rattle.stm_terms.specs.Texts.{IsPrefixOf}
 use Rattle.stm_journal.specs.declared.sync_mode.SyncMode.{SyncMode}
 use Rattle.stm_lines.specs.LineClass.{line_class}
@@ -60,13 +60,9 @@ reply_text reply.History old new c answer told h = ap₂ (λ (a b : List ℕ). a
 reply_text (reply.Events n) old new c answer told h = ap₂ (λ (a b : List ℕ). a ++ b) h.0 (sym h.1)
 reply_text reply.Checkpoint old new c answer told h = absurd (cc told)
 
--- ---- the checkpoint that is due after a line
-not_more : (m n : ℕ) → n ≤ m → nat_lt m n ≡ false
-not_more m n h = grind (arith, nat_tests)
-
 -- a line that adds no event makes none due
 pub none_due : (every : ℕ) (s t : Console) → length (events_of t) ≤ length (events_of s) → auto_step every s t ≡ t
-none_due every s t h = ap (λ (b : Bool). cond {A = Console} b (auto_checkpoint every t) t) (not_more (length (events_of s)) (length (events_of t)) h)
+none_due every s t h = ap (λ (b : Bool). cond {A = Console} b (auto_checkpoint every t) t) (le-ltb (length (events_of s)) (length (events_of t)) h)
 
 pub streamed_step : (every : ℕ) (s t : Console) → events_of t ≡ events_of s → t ≡ auto_step every s t
 streamed_step every s t e = let n : length (events_of t) ≡ length (events_of s) = ap length e in sym (none_due every s t (omega arith))

@@ -2,6 +2,7 @@
 use Rattle.std.proofs.Common.{◌≡◌, ◌≢◌, inl, inr, ℕ, zero, ◌<◌, ◌≤◌, List, [], ◌++◌, length, Bool, true, false, cond, not, IsTrue, Err, refl, sym, ap, ap₂, ◌∙◌, subst, arith, append-nil}
 use Rattle.std.specs.Prelude.{◌⊎◌, nat_lt, nat_le, ◌&&◌, codes}
 use Rattle.std.proofs.lemmas.Bool.Decides.{nat_tests}
+use Rattle.std.proofs.lemmas.Bool.{le-leb, lt-ltb}
 use Rattle.stm_journal.specs.declared.error.JournalError.{JournalError}
 use Rattle.stm_journal.specs.declared.error.JournalError.TheVariants.{NoMemory}
 use Rattle.stm_lines.specs.declared.run_fault.RunFault.TheVariants.{NoMemory as NoMemoryLeft}
@@ -53,7 +54,7 @@ few_by : (s : Console) (b : Bool) → length (events_of (asked_by s b).0) ≤ le
 few_by s true = omega arith
 few_by s false = omega arith
 
--- it leaves no more events
+-- it leaves no lt-ltb events
 few_asked : (s : Console) → length (events_of (asked_step s).0) ≤ length (events_of s)
 few_asked s = few_by s (are_tickets_full (present_desk s))
 
@@ -69,12 +70,6 @@ due_by d false low full x y e f = absurd (cc e)
 room_left : (n : ℕ) → nat_lt max_next n ≡ not (nat_le n max_next)
 room_left n = grind (arith, nat_tests)
 
-reaches : (m n : ℕ) → m ≤ n → nat_le m n ≡ true
-reaches m n h = grind (arith, nat_tests)
-
-more : (m n : ℕ) → m < n → nat_lt m n ≡ true
-more m n h = grind (arith, nat_tests)
-
 too_few : (m n : ℕ) (x : Bool) → n < m → (nat_le m n && x) ≡ false
 too_few m n x h = ap (λ (b : Bool). b && x) (fewer m n h)
   where
@@ -85,7 +80,7 @@ pub asked_is_due : (every : ℕ) (s : Console) → is_open s ≡ true → every 
 asked_is_due every (Declaring table limit) o h = absurd (cc o)
 asked_is_due every (Open d) o h =
     due_by d (nat_le every (length d.desk.history)) (nat_le (state_of d.desk).next max_next) (are_tickets_full d) (refused (codes "TicketsFull")) (checkpoint_line (length d.desk.history))
-    (reaches every (length d.desk.history) h) (room_left (state_of d.desk).next)
+    (le-leb every (length d.desk.history) h) (room_left (state_of d.desk).next)
 
 none_due_yet : (every : ℕ) (s : Console) → length (events_of s) < every → auto_checkpoint every s ≡ s
 none_due_yet every (Declaring table limit) h = refl
@@ -103,7 +98,7 @@ undue every s t (inr h) = stays_by (nat_lt (length (events_of s)) (length (event
 
 pub due : (every : ℕ) (s t : Console) → is_open t ≡ true → length (events_of s) < length (events_of t) → every ≤ length (events_of t) → (asked_step t).0 ≡ auto_step every s t
 due every s t o m h =
-    asked_is_due every t o h ∙ sym (ap (λ (b : Bool). cond {A = Console} b (auto_checkpoint every t) t) (more (length (events_of s)) (length (events_of t)) m))
+    asked_is_due every t o h ∙ sym (ap (λ (b : Bool). cond {A = Console} b (auto_checkpoint every t) t) (lt-ltb (length (events_of s)) (length (events_of t)) m))
 
 -- a console with an event is open
 pub open_with : (s t : Console) → length (events_of s) < length (events_of t) → is_open t ≡ true

@@ -4,6 +4,7 @@ use Rattle.std.specs.FinSet as set
 use Rattle.std.specs.Prelude.{nat_eq}
 use Rattle.std.proofs.lemmas.Bool.Decides.{nat_tests}
 use Rattle.std.proofs.lemmas.List.{at_drop_more}
+use Rattle.std.proofs.lemmas.Bool.{or_from}
 use Rattle.stm_watch.specs.Pairs.{Pairs, pair_cmp, has_pair, is_read, WithReads}
 use Rattle.stm_queue.specs.Queue.{Entry, has_ticket, with_ticket}
 use Rattle.stm_queue.specs.SortedTickets.{member}
@@ -131,10 +132,6 @@ ready_absent all left rest b ts e a =
 above : (t n : ℕ) → n < t → nat_eq t n ≡ false
 above t n l = grind (arith, nat_tests)
 
-neither : (a b : Bool) → a ≡ false → b ≡ false → (a || b) ≡ false
-neither true b e f = cc
-neither false b e f = f
-
 pub ready_next : (all left rest : List CheckpointBlock) (b : CheckpointBlock) (ts us : List ℕ) → left ≡ b ∷ rest → is_ready_block b ≡ true → ((u : ℕ) → member u us ≡ (nat_eq u b.ticket || member u ts))
     → AreReadyTickets all left ts → AreReadyTickets all rest us
 ready_next all left rest b ts us e f more a =
@@ -146,7 +143,7 @@ ready_next all left rest b ts us e f more a =
           ∙ named_more (member t ts) (nat_eq t b.ticket) (is_ready_block b) (has_block is_ready_block t rest) _ f (ap (λ (bs : List CheckpointBlock). member t ts || has_block is_ready_block t bs) (sym e) ∙ a.ready t);
       last = b.ticket;
       rises = r.1;
-      none_above = λ t h. more t ∙ neither (nat_eq t b.ticket) (member t ts) (above t b.ticket h) (a.none_above t (omega arith));
+      none_above = λ t h. more t ∙ or_from (nat_eq t b.ticket) (member t ts) (above t b.ticket h) (a.none_above t (omega arith));
     }
 
 ready_same : (all left rest : List CheckpointBlock) (b : CheckpointBlock) (ts : List ℕ) → left ≡ b ∷ rest → is_ready_block b ≡ false → AreReadyTickets all left ts → AreReadyTickets all rest ts

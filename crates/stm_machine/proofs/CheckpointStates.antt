@@ -1,8 +1,9 @@
 -- Events may go on from the state of a checkpoint; and the checkpoint of a state is one, of which the same is observed.
-use Rattle.std.proofs.Common.{◌≡◌, ◌≢◌, ⊎_elim, ℕ, Bool, true, false, not, ◌&&◌, ◌||◌, cond, List, [], ◌∷◌, map, Option, Some, None, IsSome, refl, sym, ap, subst, ◌∙◌, arith, inl}
+use Rattle.std.proofs.Common.{◌≡◌, ◌≢◌, ⊎_elim, ℕ, Bool, true, false, not, ◌&&◌, cond, List, [], ◌∷◌, map, Option, Some, None, IsSome, refl, sym, ap, subst, ◌∙◌, arith, inl}
 use Rattle.std.specs.Prelude.{nat_eq, is_some, option_map}
 use Rattle.std.specs.List.{list_any}
 use Rattle.std.proofs.lemmas.List.{length-map}
+use Rattle.std.proofs.lemmas.Bool.{or_left, or_right}
 use Rattle.stm_terms.specs.declared.values.Value.{Value}
 use Rattle.stm_terms.specs.declared.values.Value.TheVariants as value
 use Rattle.stm_terms.specs.declared.verdicts.Verdict.{Verdict}
@@ -101,19 +102,11 @@ intersects_none : (is : List ℕ) → intersects [] is ≡ false
 intersects_none [] = refl
 intersects_none (i ∷ is) = intersects_none is
 
-true_or : (a b : Bool) → a ≡ true → (a || b) ≡ true
-true_or true b h = refl
-true_or false b h = cc
-
-or_true : (a b : Bool) → b ≡ true → (a || b) ≡ true
-or_true true b h = refl
-or_true false b h = h
-
 meets : (woken is : List ℕ) (i : ℕ) → list_any (nat_eq i) woken ≡ true → In i is → intersects woken is ≡ true
 meets woken [] i h m = absurd m
 meets woken (j ∷ is) i h m =
-    ⊎_elim (λ (e : j ≡ i). true_or (list_any (nat_eq j) woken) (intersects woken is) (subst (λ (k : ℕ). list_any (nat_eq k) woken ≡ true) (sym e) h))
-    (λ (n : In i is). or_true (list_any (nat_eq j) woken) (intersects woken is) (meets woken is i h n)) m
+    ⊎_elim (λ (e : j ≡ i). or_left (list_any (nat_eq j) woken) (intersects woken is) (subst (λ (k : ℕ). list_any (nat_eq k) woken ≡ true) (sym e) h))
+    (λ (n : In i is). or_right (list_any (nat_eq j) woken) (intersects woken is) (meets woken is i h n)) m
 
 none_looked : (woken is : List ℕ) → ((i : ℕ) → In i is → ⊥) → intersects woken is ≡ false
 none_looked woken [] f = refl
@@ -126,7 +119,7 @@ stale_by : (store : List Cell) (block : Block) (reads : List (ℕ × Value)) (v 
 stale_by store block [] v holds n = absurd (n refl)
 stale_by store block (r ∷ rs) v holds n =
     let some : IsSome (find r.0 (reads_of (under store) block.tree)) = rw holds.reads_are (found_first r rs) in
-    meets (map (λ x. x.0) (r ∷ rs)) (looked_on store block) r.0 (true_or (nat_eq r.0 r.0) _ (itself r.0)) ((looked block.tree (under store) v holds.verdict_is r.0).1 some)
+    meets (map (λ x. x.0) (r ∷ rs)) (looked_on store block) r.0 (or_left (nat_eq r.0 r.0) _ (itself r.0)) ((looked block.tree (under store) v holds.verdict_is r.0).1 some)
 
 -- the state has of a block whether it is stale
 pub is_stale_held : (store : List Cell) (block : Block) (stale : Bool) (h : Held) → IsRightDelivery store block stale (Some h)

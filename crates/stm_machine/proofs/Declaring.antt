@@ -1,7 +1,7 @@
 -- A variable that is declared.
 use Rattle.std.proofs.Common.{◌≡◌, ℕ, zero, suc, ◌<◌, Bool, true, false, List, [], ◌∷◌, ◌++◌, length, Option, Some, None, refl, sym, ap, subst, ◌∙◌, arith}
 use Rattle.std.specs.Prelude.{is_some, nat_lt, IsTrue}
-use Rattle.std.proofs.lemmas.Bool.Decides.{nat_tests}
+use Rattle.std.proofs.lemmas.Bool.{ltb-true}
 use Rattle.stm_terms.specs.declared.kinds.Ty.{Ty}
 use Rattle.stm_terms.specs.declared.values.Value.{Value}
 use Rattle.stm_terms.specs.Names.{is_name_text}
@@ -31,13 +31,10 @@ none_is : (o : Option ℕ) → is_some o ≡ false → o ≡ None
 none_is (Some n) e = absurd (cc)
 none_is None e = refl
 
-less_is : (a b : ℕ) → nat_lt a b ≡ true → a < b
-less_is a b e = grind (arith, nat_tests)
-
 pub may_declare : (s : Slow) (name : List ℕ) (kind : Ty) (value : Value) → IsTrue (is_name_text name) → late_declare_refused s false name kind value ≡ None → MayDeclareLate s name kind value
 may_declare s name kind value n e =
     let f = free_by _ _ _ e in
-    record { name_is = n; fresh = none_is _ f.fresh; holds = f.of_type; room = less_is _ _ f.room_is }
+    record { name_is = n; fresh = none_is _ f.fresh; holds = f.of_type; room = ltb-true _ _ f.room_is }
 
 -- ---- the names are below the next variable
 kind_within : (cells : List (Ty × Value)) (i : ℕ) (t : Ty) → kinds_of cells i ≡ Some t → i < length cells

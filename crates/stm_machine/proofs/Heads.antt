@@ -2,6 +2,7 @@
 use Rattle.std.proofs.Common.{◌≡◌, ℕ, ◌<◌, ◌≤◌, Bool, true, false, not, ◌||◌, cond, List, [], ◌∷◌, map, filter, Option, Some, None, refl, sym, ap, subst, ◌∙◌, arith}
 use Rattle.std.specs.Prelude.{nat_eq, nat_lt, slice_get, option_map}
 use Rattle.std.proofs.lemmas.Bool.Decides.{nat_tests}
+use Rattle.std.proofs.lemmas.Bool.{or_left}
 use Rattle.stm_queue.specs.Queue.{Entry, has_ticket, tickets, queued}
 use Rattle.stm_queue.specs.SortedTickets.{RisesAbove, IsRising}
 use Rattle.stm_events.specs.SlowDesk.{Waiter, find_waiter}
@@ -96,14 +97,10 @@ first_least t e es r h = by (nat_eq t e.0) refl h where
   by true q h = grind (arith, nat_tests)
   by false q h = let m : e.0 < t = rises_over e.0 t es r h in omega arith
 
-true_or : (a b : Bool) → a ≡ true → (a || b) ≡ true
-true_or true b h = refl
-true_or false b h = cc
-
 head_by : (ps : List Entry) (ws : List Waiter) (n k : ℕ) (o : Option Waiter) → lowest is_due ws ≡ o → IsRising (tickets ps) → AreRising n k ws → AreQueued ps ws → first_ticket ps ≡ option_map (λ w. w.ticket) o
 head_by [] ws n k None f r s q = refl
 head_by (e ∷ es) ws n k None f r s q =
-    let a : has_ticket e.0 (e ∷ es) ≡ true = true_or (nat_eq e.0 e.0) (has_ticket e.0 es) (itself e.0) in
+    let a : has_ticket e.0 (e ∷ es) ≡ true = or_left (nat_eq e.0 e.0) (has_ticket e.0 es) (itself e.0) in
     let b : has_ticket e.0 (e ∷ es) ≡ false = q e.0 ∙ none_due e.0 ws f in
     cc
 head_by [] ws n k (Some w) f r s q =
@@ -113,7 +110,7 @@ head_by [] ws n k (Some w) f r s q =
 head_by (e ∷ es) ws n k (Some w) f r s q =
     let a : due_of (find_waiter w.ticket ws) ≡ true = ap due_of (lowest_waits is_due n k ws w s f) ∙ lowest_holds is_due ws w f in
     let b : e.0 ≤ w.ticket = first_least w.ticket e es r (q w.ticket ∙ a) in
-    let c : due_of (find_waiter e.0 ws) ≡ true = sym (q e.0) ∙ true_or (nat_eq e.0 e.0) (has_ticket e.0 es) (itself e.0) in
+    let c : due_of (find_waiter e.0 ws) ≡ true = sym (q e.0) ∙ or_left (nat_eq e.0 e.0) (has_ticket e.0 es) (itself e.0) in
     let d : w.ticket ≤ e.0 = due_from e.0 n k ws w s f c in
     let i : e.0 ≡ w.ticket = omega arith in
     ap Some i

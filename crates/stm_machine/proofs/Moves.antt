@@ -25,9 +25,6 @@ use Rattle.stm_machine.specs.QueueAndIndex.{with_tickets, due_of, watches_of, re
 use Rattle.stm_machine.proofs.Due.{IsFound, found, due_push, due_lose, due_marks, due_held, held_are}
 use Rattle.stm_machine.proofs.Points.{not_yet, has_with_tickets, queue_push, index_push, queue_delivered, index_delivered, queue_gone, index_gone, stale_of, queue_finished, index_finished, has_stale}
 
-same_number : (u t : ℕ) → nat_eq u t ≡ true → u ≡ t
-same_number u t h = eqb-true u t h
-
 pub stands_submit : (s : Slow) (m : Parts) (b : Block) → AreRising s.next 0 s.waiters → Stands s m
     → Stands (after s (Submitted m.next b)) (record m { next = m.next + 1; entries = m.entries ++ (m.next, record { block = b; held = None }) ∷ []; pending = with_ticket m.next m.pending })
 stands_submit s m b r k =
@@ -44,7 +41,7 @@ stands_submit s m b r k =
       queue = λ u. has_with u (next, false) m.pending ∙ queue_push (nat_eq u next) (has_ticket u m.pending) next b (find_waiter u s.waiters) (k.queue u) ∙ sym (ap due_of (there u));
       index = λ v u.
           index_push (nat_eq u next) (has_pair m.watch v u) v next b (find_waiter u s.waiters) (k.index v u)
-          (λ h. let l : u ≡ next = same_number u next h in not_yet u next 0 s.waiters (omega arith) low)
+          (λ h. let l : u ≡ next = eqb-true u next h in not_yet u next 0 s.waiters (omega arith) low)
           ∙ sym (ap (λ (o : Option Waiter). watches_of o v) (there u));
     }
 
@@ -63,7 +60,7 @@ stands_install s m watch' t w h k f n holds q =
       index = λ v u.
           q v u
           ∙ index_delivered (nat_eq u t) (has_pair m.watch v u) (is_read h.reads v) v s.store (find_waiter u s.waiters) w (k.index v u)
-          (λ e. subst (λ (x : ℕ). find_waiter x s.waiters ≡ Some w) (sym (same_number u t e)) f) n (ap (λ (rs : List (ℕ × Value)). is_read rs v) (sym holds.reads_are))
+          (λ e. subst (λ (x : ℕ). find_waiter x s.waiters ≡ Some w) (sym (eqb-true u t e)) f) n (ap (λ (rs : List (ℕ × Value)). is_read rs v) (sym holds.reads_are))
           ∙ sym (ap (λ (o : Option Waiter). watches_of o v) (there u));
     }
 
@@ -94,7 +91,7 @@ stands_cancel s m watch' t r k q =
       index = λ v u.
           q v u
           ∙ index_gone (nat_eq u t) (has_pair m.watch v u) (is_read (kept_reads (kept_at t m.entries)) v) v (find_waiter u s.waiters) (kept_reads (kept_at t m.entries)) (k.index v u)
-          (λ e w f. reads_there t m.entries s.waiters w k.entries_are (subst (λ (x : ℕ). find_waiter x s.waiters ≡ Some w) (same_number u t e) f)) refl
+          (λ e w f. reads_there t m.entries s.waiters w k.entries_are (subst (λ (x : ℕ). find_waiter x s.waiters ≡ Some w) (eqb-true u t e) f)) refl
           ∙ sym (ap (λ (o : Option Waiter). watches_of o v) (there u));
     }
 
@@ -125,14 +122,14 @@ stands_finish s m store' watch' t w v n stale r k f c listed store_is q =
       queue = λ u.
           has_with_tickets u stale m.pending ∙ ap (λ (b : Bool). b || has_ticket u m.pending) (has_listed u)
           ∙ queue_finished (nat_eq u t) (has_ticket u m.pending) W (find_waiter u s.waiters) (k.queue u)
-          (λ e. k.queue u ∙ current_not_due (find_waiter u s.waiters) w (subst (λ (x : ℕ). find_waiter x s.waiters ≡ Some w) (sym (same_number u t e)) f) c)
+          (λ e. k.queue u ∙ current_not_due (find_waiter u s.waiters) w (subst (λ (x : ℕ). find_waiter x s.waiters ≡ Some w) (sym (eqb-true u t e)) f) c)
           ∙ sym (ap due_of (there u));
       index = λ x u.
           q.itself x u
           ∙ ap (λ (b : Bool). b && not (nat_eq u t && is_read (kept_reads (kept_at t m.entries)) x))
           (q.others x u ∙ ap (λ (b : Bool). has_pair m.watch x u && not (b && is_read (kept_reads (kept_at u m.entries)) x)) (has_listed u))
           ∙ index_finished (nat_eq u t) (has_pair m.watch x u) (is_read (kept_reads (kept_at t m.entries)) x) (is_read (kept_reads (kept_at u m.entries)) x) x W (find_waiter u s.waiters) (k.index x u)
-          (λ e y g. ap (λ (rs : List (ℕ × Value)). is_read rs x) (reads_there t m.entries s.waiters y k.entries_are (subst (λ (z : ℕ). find_waiter z s.waiters ≡ Some y) (same_number u t e) g)))
+          (λ e y g. ap (λ (rs : List (ℕ × Value)). is_read rs x) (reads_there t m.entries s.waiters y k.entries_are (subst (λ (z : ℕ). find_waiter z s.waiters ≡ Some y) (eqb-true u t e) g)))
           (λ e y g. ap (λ (rs : List (ℕ × Value)). is_read rs x) (reads_there u m.entries s.waiters y k.entries_are g))
           ∙ sym (ap (λ (o : Option Waiter). watches_of o x) (there u));
     }

@@ -1,8 +1,9 @@
--- The set of the blocks that could finish now: what it is of the slow desk, and after each change.
+-- The set of the blocks that could finish now: what it is of the slow desk, and after and_parts change.
 use Rattle.std.proofs.Common.{◌≡◌, ℕ, ◌<◌, ◌≤◌, Bool, true, false, not, ◌&&◌, ◌||◌, cond, List, [], ◌∷◌, ◌++◌, Option, Some, None, refl, sym, ap, subst, ◌∙◌, arith, eqb-true}
 use Rattle.std.specs.Prelude.{nat_eq, nat_lt, option_map}
 use Rattle.std.specs.List.{list_any}
 use Rattle.std.proofs.lemmas.Bool.Decides.{nat_tests}
+use Rattle.std.proofs.lemmas.Bool.{and_from, and_parts, lt-ltb, ltb-true, or_right}
 use Rattle.stm_store.specs.declared.cell.Cell.{Cell}
 use Rattle.stm_check.specs.TypedBlock.{Block}
 use Rattle.stm_queue.specs.Queue.{Entry, has_ticket, with_ticket, without_ticket}
@@ -259,10 +260,6 @@ next_least t x u (y ∷ ys) r e h l = least_step (nat_lt t y) (nat_eq u y) t x y
 itself : (t : ℕ) → nat_eq t t ≡ true
 itself t = grind (arith, nat_tests)
 
-or_right : (a b : Bool) → b ≡ true → (a || b) ≡ true
-or_right true b h = refl
-or_right false b h = h
-
 some_step : (b : Bool) (t x y : ℕ) (ys : List ℕ) → nat_lt t y ≡ b → (next_after t ys ≡ Some x → (member x ys ≡ true) × (t < x)) → cond b (Some y) (next_after t ys) ≡ Some x → (member x (y ∷ ys) ≡ true) × (t < x)
 some_step true t x y ys p more e =
     let i : y ≡ x = cc in (
@@ -328,15 +325,6 @@ own_ticket : (t : ℕ) (ws : List Waiter) (c : Waiter) → find_waiter t ws ≡ 
 own_ticket t [] c f = cc
 own_ticket t (w ∷ ws) c f = ticket_step (nat_eq t w.ticket) t w c (find_waiter t ws) refl (own_ticket t ws c) f
 
--- ---- they are the same
-both : (a b : Bool) → a ≡ true → b ≡ true → (a && b) ≡ true
-both true b p q = q
-both false b p q = cc
-
-each : (a b : Bool) → (a && b) ≡ true → (a ≡ true) × (b ≡ true)
-each true b h = (refl, h)
-each false b h = cc
-
 record Ready (store : List Cell) (t : ℕ) (ws : List Waiter) : Type 0 where
   pub one : Waiter
   pub found : find_waiter t ws ≡ Some one
@@ -345,12 +333,6 @@ record Ready (store : List Cell) (t : ℕ) (ws : List Waiter) : Type 0 where
 a_ready : (store : List Cell) (t : ℕ) (ws : List Waiter) (o : Option Waiter) → find_waiter t ws ≡ o → ready_of store o ≡ true → Ready store t ws
 a_ready store t ws None f h = cc
 a_ready store t ws (Some w) f h = record { one = w; found = f; ready = h }
-
-above_test : (t u : ℕ) → t < u → nat_lt t u ≡ true
-above_test t u l = grind (arith, nat_tests)
-
-test_above : (t u : ℕ) → nat_lt t u ≡ true → t < u
-test_above t u e = grind (arith, nat_tests)
 
 module _ (s : Slow) (t : ℕ) (rs : List ℕ) (low : IsRising rs) (r : AreRising s.next 0 s.waiters) (a : (u : ℕ) → member u rs ≡ ready_of s.store (find_waiter u s.waiters)) where
   abbrev wanted : Waiter → Bool
@@ -361,13 +343,13 @@ module _ (s : Slow) (t : ℕ) (rs : List ℕ) (low : IsRising rs) (r : AreRising
   wanted_at u h l =
       let w = a_ready s.store u s.waiters (find_waiter u s.waiters) refl (sym (a u) ∙ h) in
       let q : w.one.ticket ≡ u = own_ticket u s.waiters w.one w.found in
-      (w.one, w.found, both (nat_lt t w.one.ticket) (is_ready s.store w.one) (above_test t w.one.ticket (omega arith)) w.ready)
+      (w.one, w.found, and_from (nat_lt t w.one.ticket) (is_ready s.store w.one) (lt-ltb t w.one.ticket (omega arith)) w.ready)
 
   -- and a block that is wanted has its ticket in the set
   in_set : (c : Waiter) → find_waiter c.ticket s.waiters ≡ Some c → wanted c ≡ true → (member c.ticket rs ≡ true) × (t < c.ticket)
   in_set c f h =
-      let b = each (nat_lt t c.ticket) (is_ready s.store c) h in
-      (a c.ticket ∙ ap (ready_of s.store) f ∙ b.1, test_above t c.ticket b.0)
+      let b = and_parts (nat_lt t c.ticket) (is_ready s.store c) h in
+      (a c.ticket ∙ ap (ready_of s.store) f ∙ b.1, ltb-true t c.ticket b.0)
 
   next_by : (o : Option ℕ) (p : Option Waiter) → next_after t rs ≡ o → lowest wanted s.waiters ≡ p → o ≡ option_map (λ (w : Waiter). w.ticket) p
   next_by None None e f = refl

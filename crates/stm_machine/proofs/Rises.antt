@@ -4,6 +4,7 @@ use Rattle.std.specs.Prelude.{nat_eq, nat_lt}
 use Rattle.std.specs.List.{list_any}
 use Rattle.std.specs.List.Sorted.{IsStrictlyIncreasing}
 use Rattle.std.proofs.lemmas.Bool.Decides.{nat_tests}
+use Rattle.std.proofs.lemmas.Bool.{or_from, or_right}
 use Rattle.stm_queue.specs.SortedTickets.{RisesAbove, IsRising, member}
 use Rattle.stm_queue.proofs.SortedInsertion.{absent_above}
 use Rattle.stm_queue.specs.Queue.{Entry, has_ticket, with_ticket}
@@ -103,17 +104,10 @@ above_other : (u x : ℕ) (rest : List ℕ) (b : Bool) → nat_eq u x ≡ b → 
 above_other u x rest true e r h = let l : u ≤ x = grind (arith, nat_tests) in let z : member u rest ≡ false = absent_above u x rest l r in cc
 above_other u x rest false e r h = refl
 
-or_in : (a b : Bool) → b ≡ true → (a || b) ≡ true
-or_in true b h = refl
-or_in false b h = h
-
-neither : (a b : Bool) → a ≡ false → b ≡ false → (a || b) ≡ false
-neither a b g h = rw (g, h)
-
 pub queue_next : (x : ℕ) (rest : List ℕ) (es : List Entry) → IsRising (x ∷ rest) → ((u : ℕ) → list_any (nat_eq u) (x ∷ rest) ≡ true → has_ticket u es ≡ false)
     → (u : ℕ) → list_any (nat_eq u) rest ≡ true → has_ticket u (with_ticket x es) ≡ false
 queue_next x rest es r absent u h =
-    has_with u (x, false) es ∙ neither (nat_eq u x) (has_ticket u es) (above_other u x rest (nat_eq u x) refl r h) (absent u (or_in (nat_eq u x) (list_any (nat_eq u) rest) h))
+    has_with u (x, false) es ∙ or_from (nat_eq u x) (has_ticket u es) (above_other u x rest (nat_eq u x) refl r h) (absent u (or_right (nat_eq u x) (list_any (nat_eq u) rest) h))
 
 pub next_rising : (x : ℕ) (rest : List ℕ) → IsRising (x ∷ rest) → IsRising rest
 next_rising x [] r = tt

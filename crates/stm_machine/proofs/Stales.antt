@@ -3,6 +3,7 @@ use Rattle.std.proofs.Common.{◌≡◌, ◌⊎◌, inl, inr, ⊎_elim, ℕ, Boo
 use Rattle.std.specs.Prelude.{nat_eq, is_some}
 use Rattle.std.specs.List.{list_any}
 use Rattle.std.proofs.lemmas.Bool.Decides.{nat_tests}
+use Rattle.std.proofs.lemmas.Bool.{or_cases, or_left, or_right}
 use Rattle.stm_terms.specs.declared.values.Value.{Value}
 use Rattle.stm_terms.specs.declared.verdicts.Verdict.{Verdict}
 use Rattle.stm_terms.specs.Changes.{find}
@@ -26,19 +27,6 @@ same_bools true b f g = sym (f refl)
 same_bools false true f g = absurd (cc (g refl))
 same_bools false false f g = refl
 
--- ---- variables looked at, and variables read
-either : (a b : Bool) → (a || b) ≡ true → (a ≡ true) ⊎ (b ≡ true)
-either true b h = inl refl
-either false b h = inr h
-
-or_first : (a b : Bool) → a ≡ true → (a || b) ≡ true
-or_first true b h = refl
-or_first false b h = cc
-
-or_second : (a b : Bool) → b ≡ true → (a || b) ≡ true
-or_second true b h = refl
-or_second false b h = h
-
 itself : (i : ℕ) → nat_eq i i ≡ true
 itself i = grind (arith, nat_tests)
 
@@ -56,27 +44,27 @@ is_read_find i (r ∷ rs) = find_read_step (nat_eq r.0 i) (nat_eq i r.0) r.1 (fi
 any_in : (woken : List ℕ) (i : ℕ) (p : ℕ → Bool) → list_any (nat_eq i) woken ≡ true → p i ≡ true → list_any p woken ≡ true
 any_in [] i p h q = cc
 any_in (j ∷ js) i p h q =
-    ⊎_elim (λ (e : nat_eq i j ≡ true). or_first (p j) (list_any p js) (subst (λ (k : ℕ). p k ≡ true) (eqb-true i j e) q))
-    (λ (e : list_any (nat_eq i) js ≡ true). or_second (p j) (list_any p js) (any_in js i p e q)) (either (nat_eq i j) (list_any (nat_eq i) js) h)
+    ⊎_elim (λ (e : nat_eq i j ≡ true). or_left (p j) (list_any p js) (subst (λ (k : ℕ). p k ≡ true) (eqb-true i j e) q))
+    (λ (e : list_any (nat_eq i) js ≡ true). or_right (p j) (list_any p js) (any_in js i p e q)) (or_cases (nat_eq i j) (list_any (nat_eq i) js) h)
 
 meets_in : (woken is : List ℕ) (i : ℕ) → list_any (nat_eq i) woken ≡ true → In i is → intersects woken is ≡ true
 meets_in woken [] i h m = absurd m
 meets_in woken (j ∷ is) i h m =
-    ⊎_elim (λ (e : j ≡ i). or_first (list_any (nat_eq j) woken) (intersects woken is) (subst (λ (k : ℕ). list_any (nat_eq k) woken ≡ true) (sym e) h))
-    (λ (n : In i is). or_second (list_any (nat_eq j) woken) (intersects woken is) (meets_in woken is i h n)) m
+    ⊎_elim (λ (e : j ≡ i). or_left (list_any (nat_eq j) woken) (intersects woken is) (subst (λ (k : ℕ). list_any (nat_eq k) woken ≡ true) (sym e) h))
+    (λ (n : In i is). or_right (list_any (nat_eq j) woken) (intersects woken is) (meets_in woken is i h n)) m
 
 -- from a variable of the one list that is in the other
 to_read : (woken is : List ℕ) (p : ℕ → Bool) → ((i : ℕ) → In i is → p i ≡ true) → intersects woken is ≡ true → list_any p woken ≡ true
 to_read woken [] p f h = cc
 to_read woken (i ∷ is) p f h =
     ⊎_elim (λ (e : list_any (nat_eq i) woken ≡ true). any_in woken i p e (f i (inl refl)))
-    (λ (e : intersects woken is ≡ true). to_read woken is p (λ j m. f j (inr m)) e) (either (list_any (nat_eq i) woken) (intersects woken is) h)
+    (λ (e : intersects woken is ≡ true). to_read woken is p (λ j m. f j (inr m)) e) (or_cases (list_any (nat_eq i) woken) (intersects woken is) h)
 
 to_looked : (woken all is : List ℕ) (p : ℕ → Bool) → ((i : ℕ) → p i ≡ true → In i is) → ((i : ℕ) → list_any (nat_eq i) woken ≡ true → list_any (nat_eq i) all ≡ true) → list_any p woken ≡ true → intersects all is ≡ true
 to_looked [] all is p f sub h = cc
 to_looked (j ∷ js) all is p f sub h =
-    ⊎_elim (λ (e : p j ≡ true). meets_in all is j (sub j (or_first (nat_eq j j) (list_any (nat_eq j) js) (itself j))) (f j e))
-    (λ (e : list_any p js ≡ true). to_looked js all is p f (λ i m. sub i (or_second (nat_eq i j) (list_any (nat_eq i) js) m)) e) (either (p j) (list_any p js) h)
+    ⊎_elim (λ (e : p j ≡ true). meets_in all is j (sub j (or_left (nat_eq j j) (list_any (nat_eq j) js) (itself j))) (f j e))
+    (λ (e : list_any p js ≡ true). to_looked js all is p f (λ i m. sub i (or_right (nat_eq i j) (list_any (nat_eq i) js) m)) e) (or_cases (p j) (list_any p js) h)
 
 -- the variables of a finish meet those looked at where some of them were read
 pub meets_read : (b : Block) (s : Since) (reads : List (ℕ × Value)) (v : Verdict) (woken : List ℕ) → Holds b.tree (under s.store_then) reads v

@@ -1,6 +1,6 @@
 -- What a good reader answers for a text is right.
 use Rattle.std.proofs.Common.{◌≡◌, ◌≢◌, ℕ, zero, suc, ◌+◌, ◌-◌, ◌<◌, ◌≤◌, List, [], ◌∷◌, length, slice_get, refl, sym, ap, ◌∙◌, subst, arith, Bool, true, false, cond, nat_lt, Option, Some, None, Result, Ok, Err, inl, inr}
-use Rattle.std.proofs.lemmas.Bool.Decides.{nat_tests}
+use Rattle.std.proofs.lemmas.Bool.{le-ltb, lt-ltb, ltb-false, ltb-true}
 use Rattle.stm_parse.specs.declared.token.Lexeme.{Lexeme}
 use Rattle.stm_parse.specs.declared.token.ErrorKind.{ErrorKind}
 use Rattle.stm_parse.specs.declared.token.ErrorKind.TheVariants as cause
@@ -21,26 +21,6 @@ use Rattle.stm_parse.specs.ParseFunction.{IsAnswer, located, of_tokens, answered
 use Rattle.stm_parse.proofs.ReaderCorrect.{Good, Any}
 use Rattle.stm_parse.proofs.TokenizationUnique.{rules_cut}
 use Rattle.stm_parse.proofs.FaultReported.{tokens_early, early_reported, lexemes_count, too_many, they_fit, ok_text, stop_reported}
-
-more : (m n : ℕ) → nat_lt m n ≡ true → m < n
-more m n e = grind (arith, nat_tests)
-
-less : (m n : ℕ) → nat_lt m n ≡ false → n ≤ m
-less m n e = grind (arith, nat_tests)
-
-is_more : (m n : ℕ) → m < n → nat_lt m n ≡ true
-is_more m n l = by (nat_lt m n) refl
-  where
-    by : (b : Bool) → nat_lt m n ≡ b → b ≡ true
-    by true e = refl
-    by false e = let k = less m n e in absurd (omega arith)
-
-is_less : (m n : ℕ) → n ≤ m → nat_lt m n ≡ false
-is_less m n l = by (nat_lt m n) refl
-  where
-    by : (b : Bool) → nat_lt m n ≡ b → b ≡ false
-    by true e = let k = more m n e in absurd (omega arith)
-    by false e = refl
 
 -- a fault of a text's tokens
 abbrev IsCutting : ParseFault → Type 0
@@ -87,21 +67,21 @@ module _ {A : Type 0} (r : Reader A) (L : Language A) (good : (n : ℕ) → Good
   of_cut l (Ok ts) q = by (nat_lt most_tokens (length ts)) refl
     where
       by : (b : Bool) → nat_lt most_tokens (length ts) ≡ b → IsAnswer L text (cond b (Err fault.TooLarge) (located (lexemes_of text ts) (whole r (lexemes_of text ts))))
-      by true e = (λ p. cc, too_many text ts l q (more most_tokens (length ts) e))
-      by false e = of_lexemes (lexemes_of text ts) (they_fit text ts (lexemes_of text ts) l q (less most_tokens (length ts) e) refl)
+      by true e = (λ p. cc, too_many text ts l q (ltb-true most_tokens (length ts) e))
+      by false e = of_lexemes (lexemes_of text ts) (they_fit text ts (lexemes_of text ts) l q (ltb-false most_tokens (length ts) e) refl)
 
   pub answer_right : IsAnswer L text (answered r text)
   unfolding answered
   answer_right = by (nat_lt most_bytes (length text)) refl
     where
       by : (b : Bool) → nat_lt most_bytes (length text) ≡ b → IsAnswer L text (cond b (Err fault.TooLarge) (of_tokens r text (tokens_of text)))
-      by true e = (λ p. cc, inl (more most_bytes (length text) e))
-      by false e = of_cut (less most_bytes (length text) e) (tokens_of text) refl
+      by true e = (λ p. cc, inl (ltb-true most_bytes (length text) e))
+      by false e = of_cut (ltb-false most_bytes (length text) e) (tokens_of text) refl
 
 module _ {A : Type 0} (r : Reader A) (text : List ℕ) where
   small : length text ≤ most_bytes → answered r text ≡ of_tokens r text (tokens_of text)
   unfolding answered
-  small l = ap (λ b. cond b (Err fault.TooLarge) (of_tokens r text (tokens_of text))) (is_less most_bytes (length text) l)
+  small l = ap (λ b. cond b (Err fault.TooLarge) (of_tokens r text (tokens_of text))) (le-ltb most_bytes (length text) l)
 
   pub fits_answer : (ls : List Lexeme) → LexesWithinLimits text ls → answered r text ≡ located ls (whole r ls)
   fits_answer ls f =
@@ -110,7 +90,7 @@ module _ {A : Type 0} (r : Reader A) (text : List ℕ) where
       let k = lexemes_count text ts in
       let m = f.2 in
       let n : length ts ≤ most_tokens = omega arith in
-      small f.0 ∙ ap (of_tokens r text) (rules_cut text (Ok ts) f.1.1) ∙ ap (λ b. cond b (Err fault.TooLarge) (located (lexemes_of text ts) (whole r (lexemes_of text ts)))) (is_less most_tokens (length ts) n) ∙ ap (λ l. located l (whole r l)) (sym f.1.2)
+      small f.0 ∙ ap (of_tokens r text) (rules_cut text (Ok ts) f.1.1) ∙ ap (λ b. cond b (Err fault.TooLarge) (located (lexemes_of text ts) (whole r (lexemes_of text ts)))) (le-ltb most_tokens (length ts) n) ∙ ap (λ l. located l (whole r l)) (sym f.1.2)
 
   pub ok_answer : (ls : List Lexeme) → LexesWithinLimits text ls → (t : A) → whole r ls ≡ Ok t → answered r text ≡ Ok t
   ok_answer ls f t e = fits_answer ls f ∙ ap (located ls) e
@@ -121,14 +101,14 @@ module _ {A : Type 0} (r : Reader A) (text : List ℕ) where
 
   pub early_answer : (e : ParseFault) → IsEarly text e → e ≢ fault.NoMemory → answered r text ≡ Err e
   unfolding answered
-  early_answer fault.TooLarge (inl l) q = ap (λ b. cond b (Err fault.TooLarge) (of_tokens r text (tokens_of text))) (is_more most_bytes (length text) l)
+  early_answer fault.TooLarge (inl l) q = ap (λ b. cond b (Err fault.TooLarge) (of_tokens r text (tokens_of text))) (lt-ltb most_bytes (length text) l)
   early_answer fault.TooLarge (inr h) q =
       let ts = h.2.0 in
       let e = ap length h.2.2 in
       let k = lexemes_count text ts in
       let m = h.3 in
       let n : most_tokens < length ts = omega arith in
-      small h.1 ∙ ap (of_tokens r text) (rules_cut text (Ok ts) h.2.1) ∙ ap (λ b. cond b (Err fault.TooLarge) (located (lexemes_of text ts) (whole r (lexemes_of text ts)))) (is_more most_tokens (length ts) n)
+      small h.1 ∙ ap (of_tokens r text) (rules_cut text (Ok ts) h.2.1) ∙ ap (λ b. cond b (Err fault.TooLarge) (located (lexemes_of text ts) (whole r (lexemes_of text ts)))) (lt-ltb most_tokens (length ts) n)
   early_answer (fault.BadByte n) h q = small h.0 ∙ ap (of_tokens r text) (rules_cut text (Err (fault.BadByte n)) h.1)
   early_answer (fault.BadNumber n) h q = small h.0 ∙ ap (of_tokens r text) (rules_cut text (Err (fault.BadNumber n)) h.1)
   early_answer (fault.NameTooLong n) h q = small h.0 ∙ ap (of_tokens r text) (rules_cut text (Err (fault.NameTooLong n)) h.1)

@@ -1,6 +1,6 @@
 -- A history with as many events as the passes have, of which each is its client's, has no others.
-use Rattle.std.proofs.Common.{◌≡◌, ℕ, zero, suc, ◌+◌, ◌<◌, ◌≤◌, Bool, true, false, ◌&&◌, ◌==◌, nat_lt, List, [], ◌∷◌, length, Option, Some, refl, sym, ap, ◌∙◌, arith, subst}
-use Rattle.std.proofs.lemmas.Bool.{eqb-true}
+use Rattle.std.proofs.Common.{◌≡◌, ℕ, zero, suc, ◌+◌, ◌<◌, ◌≤◌, Bool, true, false, ◌==◌, nat_lt, List, [], ◌∷◌, length, Option, Some, refl, sym, ap, ◌∙◌, arith, subst}
+use Rattle.std.proofs.lemmas.Bool.{and_from, eqb-true, false_from_ne_true}
 use Rattle.std.proofs.lemmas.Bool.Decides.{nat_tests}
 use Rattle.std.specs.Prelude.{if◌then◌else◌, IsSomeAnd}
 use Rattle.stm_events.specs.declared.event.Event.{Event}
@@ -11,13 +11,6 @@ use Rattle.stm_pool.specs.Closing.{pass_of, AgreesWith, MayClose}
 abbrev pub sum_own : ℕ → ℕ → List Event → ℕ
 sum_own c zero h = 0
 sum_own c (suc n) h = length (own_of c h) + sum_own (c + 1) n h
-
-not_true : (b : Bool) → (b ≡ true → ⊥) → b ≡ false
-not_true true h = absurd (h refl)
-not_true false h = refl
-
-both_true : (a b : Bool) → a ≡ true → b ≡ true → (a && b) ≡ true
-both_true a b p q = ap (λ x. x && b) p ∙ q
 
 left_out : (b : Bool) (e : Event) (os : List Event) → b ≡ false → length (if b then e ∷ os else os) ≡ length os
 left_out true e os h = cc
@@ -31,7 +24,7 @@ at_most_one false e os = omega arith
 uncounted : (c n : ℕ) (e : Event) (es : List Event) → ((k : ℕ) → k < n → c + k ≡ e.client → ⊥) → sum_own c n (e ∷ es) ≡ sum_own c n es
 uncounted c zero e es apart = refl
 uncounted c (suc n) e es apart =
-    let other : (e.client == c) ≡ false = not_true (e.client == c) (λ same. apart 0 (omega arith) (omega (arith, eqb-true e.client c same))) in
+    let other : (e.client == c) ≡ false = false_from_ne_true (e.client == c) (λ same. apart 0 (omega arith) (omega (arith, eqb-true e.client c same))) in
     let first = left_out (e.client == c) e (own_of c es) other in
     let rest = uncounted (c + 1) n e es (λ k l same. apart (suc k) (omega arith) (omega (arith, same))) in
     omega (arith, first, rest)
@@ -61,7 +54,7 @@ no_more n (e ∷ es) = omega (arith, counted_once 0 n e es, no_more n es)
 
 below_at : (b : Bool) (n : ℕ) (e : Event) (es : List Event) → nat_lt e.client n ≡ b → sum_own 0 n (e ∷ es) ≡ length (e ∷ es)
     → (sum_own 0 n es ≡ length es → are_below n es ≡ true) → are_below n (e ∷ es) ≡ true
-below_at true n e es is all rest = both_true _ _ is (rest (omega (arith, all, counted_once 0 n e es, no_more n es)))
+below_at true n e es is all rest = and_from _ _ is (rest (omega (arith, all, counted_once 0 n e es, no_more n es)))
 below_at false n e es is all rest =
     let out = uncounted 0 n e es (λ k l same. grind (arith, nat_tests, is, l, same)) in
     absurd (omega (arith, all, out, no_more n es))
@@ -97,7 +90,7 @@ still : (c k : ℕ) (ps : List Known) → (k ≡ c → ⊥) → pass_of k (witho
 still c k [] apart = refl
 still c k (p ∷ ps) apart = by (p.client == c) refl (still c k ps apart) where
   by : (b : Bool) → (p.client == c) ≡ b → pass_of k (without_pass c ps) ≡ pass_of k ps → pass_of k (if b then ps else p ∷ without_pass c ps) ≡ pass_of k (p ∷ ps)
-  by true e more = skipped (p.client == k) p (pass_of k ps) (not_true (p.client == k) (λ s. apart (sym (eqb-true p.client k s) ∙ eqb-true p.client c e)))
+  by true e more = skipped (p.client == k) p (pass_of k ps) (false_from_ne_true (p.client == k) (λ s. apart (sym (eqb-true p.client k s) ∙ eqb-true p.client c e)))
   by false e more = ap (λ (o : Option Known). if p.client == k then Some p else o) more
 
 sum_of_passes : (n c : ℕ) (ps : List Known) (h : List Event) → length ps ≡ n → ((k : ℕ) → k < n → AgreesWith h (c + k) ps) → events_in_passes ps ≡ sum_own c n h

@@ -2,6 +2,7 @@
 use Rattle.std.proofs.Common.{◌≡◌, ℕ, zero, suc, Bool, true, false, not, ◌&&◌, ◌||◌, cond, List, [], ◌∷◌, map, filter, Some, None, refl, ap, ◌∙◌, arith}
 use Rattle.std.specs.Prelude.{nat_eq, slice_get}
 use Rattle.std.proofs.lemmas.Bool.Decides.{nat_tests}
+use Rattle.std.proofs.lemmas.Bool.{or_right}
 use Rattle.stm_queue.specs.Queue.{Entry, has_ticket, without_ticket, marked, queued}
 use Rattle.stm_queue.specs.Laws.{RemovedAreGone, MarksKeepTickets, SendingKeepsTickets, RecallKeepsTickets, QueuedAreThere}
 use Rattle.stm_queue.proofs.Merging.{itself}
@@ -42,11 +43,6 @@ has_sent_out u (Some t) es = has_marked u t true es
 pub has_recalled : RecallKeepsTickets
 has_recalled u [] = refl
 has_recalled u (e ∷ es) = ap (λ (b : Bool). nat_eq u e.0 || b) (has_recalled u es)
-
--- ---- a queued ticket
-or_right : (a b : Bool) → b ≡ true → (a || b) ≡ true
-or_right true b h = refl
-or_right false b h = h
 
 in_step : (o : Bool) (t i : ℕ) (f : Entry) (es : List Entry) → f.1 ≡ o → ((j : ℕ) → slice_get (queued es) j ≡ Some t → has_ticket t es ≡ true)
     → slice_get (map (λ e. e.0) (cond (not o) (f ∷ filter (λ e. not e.1) es) (filter (λ e. not e.1) es))) i ≡ Some t → (nat_eq t f.0 || has_ticket t es) ≡ true

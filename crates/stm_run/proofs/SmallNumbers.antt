@@ -1,7 +1,8 @@
 -- The numbers of the events of a legal history are small, wherever it begins.
-use Rattle.std.proofs.Common.{◌≡◌, ℕ, zero, suc, ◌≤◌, ◌<◌, Bool, true, false, ◌&&◌, cond, List, [], ◌∷◌, ◌++◌, length, map, Option, Some, None, refl, sym, ap, subst, arith, append_assoc, length-append}
+use Rattle.std.proofs.Common.{◌≡◌, ℕ, zero, suc, ◌≤◌, ◌<◌, Bool, true, false, cond, List, [], ◌∷◌, ◌++◌, length, map, Option, Some, None, refl, sym, ap, subst, arith, append_assoc, length-append}
 use Rattle.std.specs.Prelude.{IsSomeAnd, filter, nat_eq, nat_le, option_map}
 use Rattle.std.proofs.lemmas.Bool.Decides.{nat_tests}
+use Rattle.std.proofs.lemmas.Bool.{and_parts}
 use Rattle.stm_terms.specs.declared.kinds.Ty.{Ty}
 use Rattle.stm_terms.specs.declared.values.Ref.TheVariants.{Old, New}
 use Rattle.stm_terms.specs.declared.values.Value.{Value}
@@ -111,13 +112,9 @@ value_small store names kind value.Unit c room t = tt
 value_small store names kind (value.Var (Old i)) c room t = let low = named_within store names i kind (known_kinds names i) c refl t in omega (arith, low, room)
 value_small store names kind (value.Var (New k)) c room t = absurd cc
 
-left_of : (a b : Bool) → (a && b) ≡ true → (a ≡ true) × (b ≡ true)
-left_of true b e = (refl, e)
-left_of false b e = absurd cc
-
 declared_small : (s : Slow) (name : List ℕ) (kind : Ty) (v : Value) → IsPossible s → MayDeclareLate s name kind v → AreNumbersSmall (DeclaredLate name kind v)
 declared_small s name kind v p m =
-    let h = left_of (nat_le kind.refs most_refs) (is_of_known s.names v kind) m.holds in
+    let h = and_parts (nat_le kind.refs most_refs) (is_of_known s.names v kind) m.holds in
     let few : nat_le kind.refs most_refs ≡ true = h.0 in
     (grind (arith, nat_tests), value_small s.store s.names kind v p.named m.room (same_kind (type_of (known_kinds s.names) no_changes v) kind h.1))
 

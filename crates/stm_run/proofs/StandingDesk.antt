@@ -2,8 +2,8 @@
 -- was submitted is well typed, each job has its ticket still, and the queue has the tickets of the new and stale blocks. Each event
 -- that the desk allows keeps it, and so does a checkpoint.
 use Rattle.std.proofs.Common.{◌≡◌, ℕ, zero, suc, ◌<◌, ◌≤◌, false, List, [], ◌∷◌, ◌++◌, length, Option, Some, None, refl, sym, ap, ◌∙◌, subst, arith, length-append}
-use Rattle.std.specs.Prelude.{nat_le, slice_get}
-use Rattle.std.proofs.lemmas.Bool.Decides.{nat_tests}
+use Rattle.std.specs.Prelude.{slice_get}
+use Rattle.std.proofs.lemmas.Bool.{leb-false}
 use Rattle.stm_queue.specs.Queue.{Entry, tickets}
 use Rattle.stm_terms.specs.declared.kinds.Ty.{Ty}
 use Rattle.stm_check.specs.TypedBlock.{Block}
@@ -74,9 +74,6 @@ pub typed_later : (es : List Event) (e : Event) → SubmittedAreWellTyped es →
 typed_later [] e h w = (w, tt)
 typed_later (x ∷ es) e h w = (h.0, typed_later es e h.1 w)
 
-has_room : (limit n : ℕ) → nat_le limit n ≡ false → n < limit
-has_room limit n e = grind (arith, nat_tests)
-
 -- an event that is allowed keeps it, where there is room for it
 pub stands_event : (d : DeskView) (jobs : List HandedOut) (what : What) → is_full d ≡ false → Allows (state_of d) what → SubmitsWellTyped what → Stands d jobs → Stands (with_event d 0 what) jobs
 stands_event d jobs what room a w k =
@@ -88,7 +85,7 @@ stands_event d jobs what room a w k =
       begins = k.begins;
       legal = record {
         each = legal_later first d.history (event 0 what) k.legal.each (record { client = omega arith; what = a });
-        few = let low = k.limit_low in let r : length d.history < d.limit = has_room d.limit (length d.history) room in omega (arith, length-append d.history (event 0 what ∷ []), low, r);
+        few = let low = k.limit_low in let r : length d.history < d.limit = leb-false d.limit (length d.history) room in omega (arith, length-append d.history (event 0 what ∷ []), low, r);
       };
       typed = typed_later d.history (event 0 what) k.typed w;
       limit_low = k.limit_low;

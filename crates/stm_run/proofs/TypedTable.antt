@@ -1,7 +1,7 @@
 -- A table stays well typed as variables are declared.
-use Rattle.std.proofs.Common.{◌≡◌, ◌⊎◌, inl, inr, ℕ, zero, suc, Bool, true, false, ◌&&◌, List, [], ◌∷◌, ◌++◌, Option, Some, None, refl, ap, subst, ◌∙◌, eqb-true}
+use Rattle.std.proofs.Common.{◌≡◌, ◌⊎◌, inl, inr, ℕ, zero, suc, true, List, [], ◌∷◌, ◌++◌, Option, Some, None, refl, ap, subst, ◌∙◌, eqb-true}
 use Rattle.std.specs.Prelude.{slice_get, option_map}
-use Rattle.std.proofs.lemmas.Bool.{false≢true}
+use Rattle.std.proofs.lemmas.Bool.{and_parts, false≢true}
 use Rattle.std.proofs.lemmas.List.{map-append}
 use Rattle.stm_terms.specs.declared.kinds.Base.{Base}
 use Rattle.stm_terms.specs.declared.kinds.Base.TheVariants as base
@@ -49,10 +49,6 @@ typed_with cells c typed e i d f = of (one_more cells c i d f)
     of (inl p) = kept d.1 d.0 (typed i d p)
     of (inr p) = subst (λ (x : Ty × Value). type_of (kinds_of (cells ++ c ∷ [])) no_changes x.1 ≡ Some x.0) p (kept c.1 c.0 e)
 
-both : (a b : Bool) → (a && b) ≡ true → (a ≡ true) × (b ≡ true)
-both true b e = (refl, e)
-both false b e = absurd (false≢true e)
-
 same_bases : (a b : Base) → same_base a b ≡ true → a ≡ b
 same_bases base.Int base.Int e = refl
 same_bases base.Bool base.Bool e = refl
@@ -61,7 +57,7 @@ same_bases a b e = absurd (false≢true e)
 
 same_types : (t u : Ty) → same_ty t u ≡ true → t ≡ u
 same_types t u e =
-    let h = both _ _ e in
+    let h = and_parts _ _ e in
     let p : t.base ≡ u.base = same_bases _ _ h.0 in
     let q : t.refs ≡ u.refs = eqb-true t.refs u.refs h.1 in
     λ i. record { base = p i; refs = q i }
@@ -74,4 +70,4 @@ same_kind None t e = absurd (false≢true e)
 pub typed_more : (table : List Declared) (d : Declared) → StoreIsTyped (declared_cells table) → may_hold (declared_cells table) d.kind d.value ≡ true → StoreIsTyped (declared_cells (table ++ d ∷ []))
 typed_more table d typed e =
     let cells : declared_cells (table ++ d ∷ []) ≡ declared_cells table ++ declared_cell d ∷ [] = map-append declared_cell table (d ∷ []) in
-    rw cells (typed_with (declared_cells table) (declared_cell d) typed (same_kind _ _ (both _ _ e).1))
+    rw cells (typed_with (declared_cells table) (declared_cell d) typed (same_kind _ _ (and_parts _ _ e).1))

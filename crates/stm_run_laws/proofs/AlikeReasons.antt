@@ -5,6 +5,7 @@ use Rattle.std.specs.Prelude.{nat_eq, option_map, if◌then◌else◌}
 use Rattle.std.specs.List.{list_any}
 use Rattle.std.specs.Option.{option_or}
 use Rattle.std.proofs.lemmas.Bool.Decides.{nat_tests}
+use Rattle.std.proofs.lemmas.Bool.{or_parts}
 use Rattle.stm_terms.specs.declared.values.Value.{Value}
 use Rattle.stm_terms.specs.declared.verdicts.Verdict.{Verdict}
 use Rattle.stm_terms.specs.Changes.{Variables, find}
@@ -125,15 +126,10 @@ told_later d t reads what n =
     ap (stale_told (stale_at t d.checkpoint) (kept_cause_at t d.checkpoint) reads (d.history ++ e ∷ [])) (since_later t d.history e n)
     ∙ stale_later (stale_at t d.checkpoint) (kept_cause_at t d.checkpoint) reads d.history e (events_since t d.history)
 
--- ---- events that make the block not stale change none of its reads
-or_false : (a b : Bool) → (a || b) ≡ false → (a ≡ false) × (b ≡ false)
-or_false true b e = absurd cc
-or_false false b e = (refl, e)
-
 not_met : (woken is : List ℕ) (i : ℕ) → intersects woken is ≡ false → In i is → list_any (nat_eq i) woken ≡ false
 not_met woken [] i h m = absurd m
 not_met woken (j ∷ is) i h m =
-    let p = or_false (list_any (nat_eq j) woken) (intersects woken is) h in
+    let p = or_parts (list_any (nat_eq j) woken) (intersects woken is) h in
     ⊎_elim (λ (e : j ≡ i). subst (λ (k : ℕ). list_any (nat_eq k) woken ≡ false) e p.0) (λ (n : In i is). not_met woken is i p.1 n) m
 
 found_first : (b : Bool) (x : Value) (o : Option Value) → b ≡ true → IsSome (cond b (Some x) o)
@@ -166,7 +162,7 @@ silent block store_then v s [] had f h n = refl
 silent block store_then v s (e ∷ es) had f h n =
     let reads = reads_of (under store_then) block.tree in
     let looks = looked_on store_then block in
-    let p = or_false (intersects (waking_at s e.what) looks) (intersects (waking_from (after s e.what) es) looks) (sym (meets-append (waking_at s e.what) (waking_from (after s e.what) es) looks) ∙ n) in
+    let p = or_parts (intersects (waking_at s e.what) looks) (intersects (waking_from (after s e.what) es) looks) (sym (meets-append (waking_at s e.what) (waking_from (after s e.what) es) looks) ∙ n) in
     let now : AreRead reads (under (after s e.what).store) =
     kept_read reads (under s.store) (under (after s e.what).store)
     (λ i x m at. value_after s e.what i x (not_met (waking_at s e.what) looks i p.0 ((looked block.tree (under store_then) v had i).1 m)) at) h in
@@ -194,7 +190,7 @@ none_told d t w s k (Before since) fresh =
     let start = start_state d in
     let reads = reads_of (under s.store_then) w.block.tree in
     let looks = looked_on s.store_then w.block in
-    let p = or_false (intersects since.since.woken looks) (intersects (waking_from start d.history) looks)
+    let p = or_parts (intersects since.since.woken looks) (intersects (waking_from start d.history) looks)
     (sym (meets-append since.since.woken (waking_from start d.history) looks) ∙ ap (λ (woken : List ℕ). intersects woken looks) (sym since.woken) ∙ fresh) in
     let first : is_stale_since since.first.block since.since ≡ false = (let a = since.store in let b = since.block in let c = p.0 in subst (λ (x : Block). is_stale_since x since.since ≡ false) b
     (subst (λ (cells : List Cell). intersects since.since.woken (looked_on cells w.block) ≡ false) a c)) in

@@ -5,8 +5,7 @@ use Rattle.std.specs.Str.{bytes_eq}
 use Rattle.std.proofs.lemmas.List.{map-append, take-append-le}
 use Rattle.std.proofs.Math.Seq.{take-append_seam}
 use Rattle.std.proofs.lemmas.Option.{slice_get_within}
-use Rattle.std.proofs.lemmas.Bool.{false≢true}
-use Rattle.std.proofs.lemmas.Bool.Decides.{nat_tests}
+use Rattle.std.proofs.lemmas.Bool.{false≢true, lt-ltb}
 use Rattle.std.proofs.lemmas.Slice.Eq.{bytes_eq-Decides}
 use Rattle.stm_terms.specs.declared.kinds.Ty.{Ty}
 use Rattle.stm_terms.specs.declared.values.Value.{Value}
@@ -63,12 +62,9 @@ distinct-added t d distinct e i x f =
           subst (λ (y : Declared). number_of y.name (t ++ d ∷ []) ≡ Some i) p.1 (number-last 0 t d e ∙ ap Some s)
     ]
 
-lt_true : (a b : ℕ) → a < b → nat_lt a b ≡ true
-lt_true a b h = grind (arith, nat_tests)
-
 unrefused : (t : List Declared) (d : Declared) → length t < 1000000 → may_hold (declared_cells t) d.kind d.value ≡ true → is_some (number_of d.name t) ≡ false → declare_refusal t d.name d.kind d.value ≡ None
 unrefused t d less holds fresh =
-    let room : nat_lt (length t) 1000000 ≡ true = lt_true (length t) 1000000 less in
+    let room : nat_lt (length t) 1000000 ≡ true = lt-ltb (length t) 1000000 less in
     rw (fresh, holds, room) refl
 
 abbrev Unrefused : List Declared → Declared → Type 0

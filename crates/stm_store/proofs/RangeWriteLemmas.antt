@@ -2,11 +2,11 @@
 use Rattle.std.proofs.Common.{◌≡◌, ℕ, suc, ◌+◌, ◌-◌, ◌<◌, ◌≤◌, ◌==◌, true, false, cond, nat_lt, List, [], ◌∷◌, ◌++◌, get_or, Option, Some, None, length, take, drop, set, refl, sym, ap, subst, ◌∙◌, arith, add-one}
 use Rattle.std.specs.Prelude.{slice_get, Result, Ok, Err, OnOk, OnErr}
 use Rattle.std.specs.List.{prefix_len}
-use Rattle.std.proofs.lemmas.Bool.Decides.{nat_tests}
 use Rattle.std.proofs.lemmas.List.{set-append_left, take-append-drop, length-take-le}
 use Rattle.std.proofs.lemmas.List.Sums.{prefix_len-le-length}
 use Rattle.std.proofs.lemmas.Option.{slice_get-get_or}
 use Rattle.std.proofs.Math.Seq.{take-append_seam, drop-cons}
+use Rattle.std.proofs.lemmas.Bool.{ltb-false, ltb-true}
 use Rattle.stm_terms.specs.declared.values.Value.{Value}
 use Rattle.stm_terms.specs.Typing.{AllAbove, Rising}
 use Rattle.stm_store.specs.declared.cell.Cell.{Cell}
@@ -69,17 +69,11 @@ one_more n = omega arith
 pub before_few : (b : ℕ) (ws : List (ℕ × Value)) → before b ws ≤ length ws
 before_few b ws = prefix_len-le-length (λ w. nat_lt w.0 b) ws
 
-less_true : (a b : ℕ) → nat_lt a b ≡ true → a < b
-less_true a b e = grind (arith, nat_tests)
-
-less_false : (a b : ℕ) → nat_lt a b ≡ false → b ≤ a
-less_false a b e = grind (arith, nat_tests)
-
 pub first_within : (n i b j : ℕ) (ws : List (ℕ × Value)) → AreWithin n i j ws → AreWithin n i b (take (before b ws) ws)
 first_within n i b j [] a = tt
 first_within n i b j (w ∷ ws) a =
     elim (nat_lt w.0 b) as (λ t. nat_lt w.0 b ≡ t → AreWithin n i b (take (cond t (1 + before b ws) 0) (w ∷ ws))) [
-      | true ↦ λ e. rw (one_more (before b ws)) (a.0, less_true w.0 b e, a.2, first_within n (w.0 + 1) b j ws a.3)
+      | true ↦ λ e. rw (one_more (before b ws)) (a.0, ltb-true w.0 b e, a.2, first_within n (w.0 + 1) b j ws a.3)
       | false ↦ λ e. tt
     ] refl
 
@@ -88,7 +82,7 @@ others_within n i b j [] a = tt
 others_within n i b j (w ∷ ws) a =
     elim (nat_lt w.0 b) as (λ t. nat_lt w.0 b ≡ t → AreWithin n b j (drop (cond t (1 + before b ws) 0) (w ∷ ws))) [
       | true ↦ λ e. rw (one_more (before b ws)) (others_within n (w.0 + 1) b j ws a.3)
-      | false ↦ λ e. (less_false w.0 b e, a.1, a.2, a.3)
+      | false ↦ λ e. (ltb-false w.0 b e, a.1, a.2, a.3)
     ] refl
 
 pub some_before : (b : ℕ) (ws : List (ℕ × Value)) → StartsBelow b ws → 0 < before b ws
@@ -96,7 +90,7 @@ some_before b [] s = absurd s
 some_before b (w ∷ ws) s =
     elim (nat_lt w.0 b) as (λ t. nat_lt w.0 b ≡ t → 0 < cond t (1 + before b ws) 0) [
       | true ↦ λ e. omega arith
-      | false ↦ λ e. absurd (let l = less_false w.0 b e in omega arith)
+      | false ↦ λ e. absurd (let l = ltb-false w.0 b e in omega arith)
     ] refl
 
 -- ---- the cells that writes leave
@@ -127,13 +121,13 @@ writes_both n i b j [] xs ys a e = refl
 writes_both n i b j (w ∷ ws) xs ys a e =
     elim (nat_lt w.0 b) as (λ t. nat_lt w.0 b ≡ t → with_writes_from n i (w ∷ ws) (xs ++ ys) ≡ with_writes_from n i (take (cond t (1 + before b ws) 0) (w ∷ ws)) xs ++ with_writes_from n b (drop (cond t (1 + before b ws) 0) (w ∷ ws)) ys) [
       | true ↦ λ t.
-          let l = less_true w.0 b t in
+          let l = ltb-true w.0 b t in
           let cs = with_write n xs (w.0 - i) w.1 (slice_get xs (w.0 - i)) in
           let kept : b ≡ i + length cs = omega (arith, length-write n xs (w.0 - i) w.1 (slice_get xs (w.0 - i))) in
           rw (one_more (before b ws))
           (ap (with_writes_from n i ws) (write_here n xs ys (w.0 - i) w.1 (omega (arith, a.0)))
           ∙ writes_both n i b j ws cs ys (from_lower n i (w.0 + 1) j ws (omega (arith, a.0)) a.3) kept)
-      | false ↦ λ t. writes_behind n i b j (w ∷ ws) xs ys (less_false w.0 b t, a.1, a.2, a.3) e
+      | false ↦ λ t. writes_behind n i b j (w ∷ ws) xs ys (ltb-false w.0 b t, a.1, a.2, a.3) e
     ] refl
 
 -- ---- writes to the front of a whole list

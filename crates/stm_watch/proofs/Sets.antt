@@ -9,7 +9,7 @@ use Rattle.std.proofs.lemmas.Cmp.{on_total, then_total}
 use Rattle.std.proofs.lemmas.List.Kept.{Contains-dedup_nat, Contains-from_dedup}
 use Rattle.std.proofs.lemmas.Map.Lookups.{exact_pairs, exact_unsigned}
 use Rattle.std.proofs.lemmas.Map.Views.{Contains-from_any, list_any-from_Contains}
-use Rattle.std.proofs.lemmas.Bool.{false≢true}
+use Rattle.std.proofs.lemmas.Bool.{false≢true, or_right}
 use Rattle.std.specs.BTreeMap.{is_at}
 use Rattle.std.proofs.lemmas.Bool.Decides.{nat_tests}
 use Rattle.stm_terms.specs.declared.values.Value.{Value}
@@ -90,14 +90,10 @@ one_of_all false true true m h = rw (h refl) refl
 one_of_all false true false m h = refl
 one_of_all false false e m h = refl
 
-or_true : (a b : Bool) → b ≡ true → (a || b) ≡ true
-or_true true b h = refl
-or_true false b h = h
-
 pub in_whole : (v i : ℕ) (vs : List ℕ) → i < length vs → nat_eq v (get_or vs i 0) ≡ true → list_any (nat_eq v) vs ≡ true
 in_whole v i [] l h = absurd (omega arith)
 in_whole v zero (x ∷ vs) l h = rw h refl
-in_whole v (suc i) (x ∷ vs) l h = or_true (nat_eq v x) (list_any (nat_eq v) vs) (in_whole v i vs (omega arith) h)
+in_whole v (suc i) (x ∷ vs) l h = or_right (nat_eq v x) (list_any (nat_eq v) vs) (in_whole v i vs (omega arith) h)
 
 -- ---- ascending lists
 rises_above : (x k : ℕ) (xs : List ℕ) → RisesAbove x xs → k + 1 < length (x ∷ xs) → slice_index (x ∷ xs) k < slice_index (x ∷ xs) (k + 1)
