@@ -3,6 +3,7 @@ pub mod ArgumentCases
 pub mod CommandWords
 pub mod DeclaredVariables
 pub mod DeliveredJobs
+pub mod DeskCommands
 pub mod DeskMoves
 pub mod DueQueue
 pub mod EventsOfConsole
