@@ -10,7 +10,7 @@ ghost use Rattle.stm_events.specs.SlowDesk.{Slow};
 ghost use Rattle.stm_events.specs.States.{IsTypedState};
 ghost use Rattle.stm_events.specs.declared.staleness.StalenessRule.{StalenessRule as AnyRule};
 ghost use Rattle.stm_machine.specs.Checkpoints.{IsCheckpoint, CheckpointsArePossible, CheckpointsAreUnseen, LabelsLeaveCheckpoints, CausesLeaveCheckpoints, checkpoint_of, labelled_block, with_labels, caused_block, with_causes, differs_from, all_differ, IsKeptCause, MayHaveCause, MayHaveCauses, MayAdd, checkpoint_block, held_of, is_stale_delivery, checkpoint_state, max_next};
-ghost use Rattle.stm_machine.specs.CheckpointEntries.{HasPlace, last_ticket};
+ghost use Rattle.stm_machine.specs.CheckpointEntries.{EntriesRise, HasPlace, block_of, last_ticket};
 ghost use Rattle.stm_machine.specs.Machine.{IsAt};
 ghost use Rattle.stm_machine.specs.SettleChoices.{some_out};
 
@@ -26,10 +26,11 @@ use stm_events::label::is_label;
 use stm_events::label_table::LabelTable;
 use stm_events::shared_name::SharedName;
 use stm_events::staleness::StalenessRule;
+use stm_queue::Pending;
 use stm_store::{Names, Store};
 use stm_terms::NoMemory;
 use stm_terms::values::Value;
-use stm_waiting::Waiting;
+use stm_waiting::{Waiting, WaitingBlocks};
 use thiserror::Error;
 
 /// A waiting block of a checkpoint.
@@ -189,6 +190,20 @@ fn all_labelled(
         push_block(&mut all, labelled(block, labels)?)?;
     }
     Ok(all)
+}
+
+/// All that waits, as blocks of a checkpoint, with the labels that they have by a table.
+fn labelled_blocks(
+    alloc: Global,
+    waiting: &WaitingBlocks,
+    pending: &Pending,
+    labels: &LabelTable,
+) -> Result<Vec<CheckpointBlock>, NoMemory>
+    requires { EntriesRise 0 waiting.now }
+    ensures { IfOk result (λ bs. bs.items
+        ≡ map (labelled_block labels.now) (map (block_of pending.now.entries) waiting.now)) }
+{
+    all_labelled(alloc, waiting_blocks(alloc, waiting, pending)?, labels)
 }
 
 /// The blocks with the causes that they have by a table.
@@ -438,15 +453,12 @@ impl Machine {
         }
         // The cells are known to be well typed by this.
         let _cells = self.store.len();
+        let blocks = labelled_blocks(alloc, &self.waiting, &self.pending, labels)?;
         Ok(Checkpoint {
             store: self.store.share()?,
             names: self.names.copy(alloc)?,
             next: self.next,
-            blocks: all_labelled(
-                alloc,
-                waiting_blocks(alloc, &self.waiting, &self.pending)?,
-                labels,
-            )?,
+            blocks,
         })
     }
 
