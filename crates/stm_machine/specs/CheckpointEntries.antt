@@ -1,14 +1,17 @@
 -- How a machine keeps the blocks of a checkpoint, ticket by ticket, and what a checkpoint has of the blocks that a machine keeps.
-use Rattle.std.specs.Prelude.{ℕ, ◌<◌, Bool, not, ◌&&◌, nat_eq, is_some, List, [], ◌∷◌, length, None}
+use Rattle.std.specs.Prelude.{◌≡◌, ℕ, ◌<◌, Bool, false, not, ◌&&◌, nat_eq, is_some, List, [], ◌∷◌, length, map, None}
 use Rattle.std.specs.List.{list_any}
 use Rattle.stm_queue.specs.Queue.{Entry, has_ticket}
+use Rattle.stm_queue.specs.SortedTickets.{member}
 use Rattle.stm_terms.specs.Limits.{max_waiting}
-use Rattle.stm_watch.specs.Pairs.{is_read}
+use Rattle.stm_watch.specs.Pairs.{has_pair, is_read}
 use Rattle.stm_waiting.specs.declared.waiting.Waiting.{Waiting}
 use Rattle.stm_waiting.specs.Entries.{held_reads}
 use Rattle.stm_machine.specs.declared.checkpoint.CheckpointBlock.{CheckpointBlock}
 use Rattle.stm_machine.specs.Checkpoints.{CheckpointView}
+use Rattle.stm_machine.specs.declared.restored.Restored.{Restored}
 use Rattle.stm_machine.specs.Entries.{held_ends}
+use Rattle.stm_machine.specs.SettleChoices.{some_out}
 
 -- ---- kept by a machine
 -- above k, each above the one before it
@@ -50,6 +53,14 @@ is_named f t b = nat_eq t b.ticket && f b
 -- a block with the ticket is such a one
 abbrev pub has_block : (CheckpointBlock → Bool) → ℕ → List CheckpointBlock → Bool
 has_block f t bs = list_any (is_named f t) bs
+
+-- what a machine keeps of these blocks: each under its ticket, all that are due queued, what the others read, and those that are ready
+pub record KeepsBlocks (bs : List CheckpointBlock) (r : Restored) : Type 0 where
+  pub entries : r.waiting ≡ map entry_of bs
+  pub due : (t : ℕ) → has_ticket t r.pending.entries ≡ has_block is_due_block t bs
+  pub none_out : some_out r.pending.entries ≡ false
+  pub watched : (v t : ℕ) → has_pair r.watch v t ≡ has_block (watches_variable v) t bs
+  pub ready : (t : ℕ) → member t r.ready.tickets ≡ has_block is_ready_block t bs
 
 -- ---- kept by a checkpoint
 -- above k, each above the one before it

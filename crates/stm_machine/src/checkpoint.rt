@@ -15,7 +15,7 @@ ghost use Rattle.stm_machine.specs.Machine.{IsAt};
 ghost use Rattle.stm_machine.specs.SettleChoices.{some_out};
 
 use crate::machine::Machine;
-use crate::restored::{due_tickets, entries, read_variables, ready_tickets, waiting_blocks};
+use crate::restored::{Restored, waiting_blocks};
 use crate::right_delivery::{last_delivery, writes_of};
 use std::alloc::Global;
 use std::marker::Model;
@@ -468,18 +468,14 @@ impl Machine {
         ensures at { IfOk result (λ m. IsAt m (checkpoint_state checkpoint.now)) }
         ensures none_out { IfOk result (λ m. some_out m.pending ≡ false) }
     {
-        let blocks = checkpoint.blocks.as_slice();
-        Ok(Machine {
+        let blocks = Restored::of_blocks(alloc, checkpoint.blocks.as_slice())?;
+        Ok(blocks.into_machine(
             alloc,
-            rule: StalenessRule::Changed,
-            store: checkpoint.store.share()?,
-            names: checkpoint.names.copy(alloc)?,
-            next: checkpoint.next,
-            waiting: entries(alloc, blocks)?,
-            pending: due_tickets(alloc, blocks)?,
-            watch: read_variables(alloc, blocks)?,
-            ready: ready_tickets(alloc, blocks)?,
-        })
+            StalenessRule::Changed,
+            checkpoint.store.share()?,
+            checkpoint.names.copy(alloc)?,
+            checkpoint.next,
+        ))
     }
 }
 

@@ -5,13 +5,17 @@ ghost use Rattle.stm_queue.specs.Queue.{has_ticket};
 ghost use Rattle.stm_queue.specs.SortedTickets.{member};
 ghost use Rattle.stm_watch.specs.Pairs.{has_pair};
 ghost use Rattle.stm_waiting.specs.Entries.{AllBelow};
-ghost use Rattle.stm_machine.specs.CheckpointEntries.{EntriesRise, TicketsAscend, block_of, entry_of, has_block, is_due_block, is_ready_block, watches_variable};
+ghost use Rattle.stm_machine.specs.CheckpointEntries.{EntriesRise, TicketsAscend, KeepsBlocks, block_of, entry_of, has_block, is_due_block, is_ready_block, watches_variable};
+ghost use Rattle.stm_machine.specs.ReadySet.{AreReady};
 ghost use Rattle.stm_machine.specs.SettleChoices.{some_out};
 
 use crate::checkpoint::CheckpointBlock;
+use crate::machine::Machine;
 use std::alloc::Global;
 use stm_events::SharedName;
+use stm_events::staleness::StalenessRule;
 use stm_queue::Pending;
+use stm_store::{Names, Store};
 use stm_terms::NoMemory;
 use stm_waiting::{Held, TicketSet, Waiting, WaitingBlocks};
 use stm_watch::Watch;
@@ -120,7 +124,7 @@ fn add_entry(waiting: &mut WaitingBlocks, block: &CheckpointBlock) -> Result<(),
 }
 
 /// The blocks, by their tickets.
-pub(crate) fn entries(alloc: Global, blocks: &[CheckpointBlock]) -> Result<WaitingBlocks, NoMemory>
+fn entries(alloc: Global, blocks: &[CheckpointBlock]) -> Result<WaitingBlocks, NoMemory>
     requires { TicketsAscend 0 blocks.now }
     ensures { IfOk result (λ w. w ≡ map entry_of blocks.now) }
 {
@@ -132,7 +136,7 @@ pub(crate) fn entries(alloc: Global, blocks: &[CheckpointBlock]) -> Result<Waiti
 }
 
 /// The tickets of the new and the stale blocks, all queued.
-pub(crate) fn due_tickets(alloc: Global, blocks: &[CheckpointBlock]) -> Result<Pending, NoMemory>
+fn due_tickets(alloc: Global, blocks: &[CheckpointBlock]) -> Result<Pending, NoMemory>
     requires { TicketsAscend 0 blocks.now }
     ensures due { IfOk result (λ p. (t : ℕ) → has_ticket t p.entries ≡ has_block is_due_block t blocks.now) }
     ensures none_out { IfOk result (λ p. some_out p.entries ≡ false) }
@@ -148,7 +152,7 @@ pub(crate) fn due_tickets(alloc: Global, blocks: &[CheckpointBlock]) -> Result<P
 }
 
 /// What each current block read.
-pub(crate) fn read_variables(alloc: Global, blocks: &[CheckpointBlock]) -> Result<Watch, NoMemory>
+fn read_variables(alloc: Global, blocks: &[CheckpointBlock]) -> Result<Watch, NoMemory>
     ensures { IfOk result (λ w. (v t : ℕ) → has_pair w v t ≡ has_block (watches_variable v) t blocks.now) }
 {
     let mut watch = Watch::empty(alloc);
@@ -161,10 +165,7 @@ pub(crate) fn read_variables(alloc: Global, blocks: &[CheckpointBlock]) -> Resul
 }
 
 /// The tickets of the blocks that could finish.
-pub(crate) fn ready_tickets(
-    alloc: Global,
-    blocks: &[CheckpointBlock],
-) -> Result<TicketSet, NoMemory>
+fn ready_tickets(alloc: Global, blocks: &[CheckpointBlock]) -> Result<TicketSet, NoMemory>
     requires { TicketsAscend 0 blocks.now }
     ensures { IfOk result (λ r. (t : ℕ) → member t r.tickets ≡ has_block is_ready_block t blocks.now) }
 {
@@ -176,4 +177,92 @@ pub(crate) fn ready_tickets(
         }
     }
     Ok(ready)
+}
+
+/// What a machine keeps of the blocks of a checkpoint.
+pub(crate) struct Restored {
+    pub waiting: WaitingBlocks,
+    pub pending: Pending,
+    pub watch: Watch,
+    pub ready: TicketSet,
+}
+
+// Written out, and not derived, so that the proof of each owner calls it once.
+impl Drop for Restored {
+    fn drop(self) {
+        let Restored {
+            waiting: _,
+            pending: _,
+            watch: _,
+            ready: _,
+        } = self;
+    }
+}
+
+impl Restored {
+    /// Keeps these blocks in place of what it kept.
+    fn fill(&mut self, alloc: Global, blocks: &[CheckpointBlock]) -> Result<(), NoMemory>
+        requires { TicketsAscend 0 blocks.now }
+        ensures { OnOk result (KeepsBlocks blocks.now self.new) }
+    {
+        self.waiting = entries(alloc, blocks)?;
+        self.pending = due_tickets(alloc, blocks)?;
+        self.watch = read_variables(alloc, blocks)?;
+        self.ready = ready_tickets(alloc, blocks)?;
+        Ok(())
+    }
+
+    /// What a machine keeps of these blocks.
+    pub(crate) fn of_blocks(alloc: Global, blocks: &[CheckpointBlock]) -> Result<Restored, NoMemory>
+        requires { TicketsAscend 0 blocks.now }
+        ensures { IfOk result (λ r. KeepsBlocks blocks.now r) }
+    {
+        let mut restored = Restored {
+            waiting: WaitingBlocks::empty(alloc),
+            pending: Pending::empty(alloc),
+            watch: Watch::empty(alloc),
+            ready: TicketSet::empty(alloc),
+        };
+        restored.fill(alloc, blocks)?;
+        Ok(restored)
+    }
+
+    /// A machine with these blocks.
+    pub(crate) fn into_machine(
+        self,
+        alloc: Global,
+        rule: StalenessRule,
+        store: Store,
+        names: Names,
+        next: u32,
+    ) -> Machine
+        requires { AreReady self.ready.tickets self.waiting self.pending.entries }
+        ensures { result ≡ record {
+          rule = rule;
+          store = store;
+          names = names;
+          next = next;
+          entries = self.waiting;
+          pending = self.pending.entries;
+          watch = self.watch;
+        } }
+    {
+        let Restored {
+            waiting,
+            pending,
+            watch,
+            ready,
+        } = self;
+        Machine {
+            alloc,
+            rule,
+            store,
+            names,
+            next,
+            waiting,
+            pending,
+            watch,
+            ready,
+        }
+    }
 }
