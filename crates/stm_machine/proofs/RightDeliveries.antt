@@ -6,20 +6,19 @@ use Rattle.stm_terms.specs.declared.values.Value.TheVariants as value
 use Rattle.stm_terms.specs.declared.verdicts.Verdict.TheVariants.{Commits}
 use Rattle.stm_terms.specs.Typing.{Rising}
 use Rattle.stm_store.specs.declared.cell.Cell.{Cell}
-use Rattle.stm_store.specs.Cells.{plains, Covers, Fits, StoreIsTyped}
+use Rattle.stm_store.specs.Cells.{plains, Fits, StoreIsTyped}
 use Rattle.stm_check.specs.TypedBlock.{Block}
 use Rattle.stm_eval.specs.Messages.{Agrees, Holds}
 use Rattle.stm_eval.proofs.FragmentsAndStores.{of_the_store, holds_again}
 use Rattle.stm_events.specs.Delivered.{Delivered}
 use Rattle.stm_events.specs.declared.kept_cause.KeptCause.{KeptCause}
-use Rattle.stm_events.specs.Labels.{is_label}
 use Rattle.stm_events.specs.Laws.{IsWellTyped}
 use Rattle.stm_events.specs.Refusals.{differing}
 use Rattle.stm_events.specs.SlowDesk.{under}
 use Rattle.stm_waiting.specs.declared.waiting.Held.{Held}
 use Rattle.stm_machine.specs.declared.checkpoint.CheckpointBlock.{CheckpointBlock}
 use Rattle.stm_machine.specs.Checkpoints.{CheckpointView, store_with, IsRightDelivery, IsKeptCause, MayHaveCause, IsCheckpointBlock, AreCheckpointBlocks, IsCheckpoint, MayAdd, checkpoint_block, is_stale_delivery, held_of}
-use Rattle.stm_machine.specs.CheckpointEntries.{HasPlace, last_ticket}
+use Rattle.stm_machine.specs.CheckpointEntries.{HasPlace, MayWait, last_ticket}
 use Rattle.stm_machine.proofs.Delivery.{none_differs}
 use Rattle.stm_machine.proofs.StoreWith.{has_values, values_fit}
 
@@ -77,12 +76,12 @@ may_add c b k p one = record {
   blocks = blocks_push c.store c.next 0 c.blocks b k.blocks p.above p.below one;
 }
 
-pub may_add_block : (c : CheckpointView) (t : ℕ) (block : Block) (d : Option Delivered) (cause : Option KeptCause) (label : List ℕ) → IsCheckpoint c → HasPlace c t → is_label label ≡ true → Covers (plains c.store) block.uses → IsWellTyped block
-    → IsRightDelivery c.store block (is_stale_delivery d) (option_map held_of d) → MayHaveCause c.store c.next (is_stale_delivery d) (option_map held_of d) cause → MayAdd c (checkpoint_block t block d cause label)
-may_add_block c t block d cause label k p one covered typed right may =
-    may_add c (checkpoint_block t block d cause label) k p (record { covered = covered; typed = typed; delivery = right; cause = may; label = one })
+pub may_add_block : (c : CheckpointView) (t : ℕ) (block : Block) (d : Option Delivered) (cause : Option KeptCause) (label : List ℕ) → IsCheckpoint c → MayWait c t block d cause label → IsWellTyped block
+    → IsRightDelivery c.store block (is_stale_delivery d) (option_map held_of d) → MayAdd c (checkpoint_block t block d cause label)
+may_add_block c t block d cause label k w typed right =
+    may_add c (checkpoint_block t block d cause label) k w.0.0 (record { covered = w.0.2; typed = typed; delivery = right; cause = w.1; label = w.0.1 })
 
-pub has_place : (c : CheckpointView) (b : CheckpointBlock) → MayAdd c b → HasPlace c b.ticket
+has_place : (c : CheckpointView) (b : CheckpointBlock) → MayAdd c b → HasPlace c b.ticket
 has_place c b k =
     let p = pushed_last c.store c.next 0 c.blocks b k.blocks in
     record { few = let l = length-append c.blocks (b ∷ []) in let f = k.few in omega arith; above = p.0; below = p.1 }
@@ -90,16 +89,22 @@ has_place c b k =
 pub is_block : (c : CheckpointView) (b : CheckpointBlock) → MayAdd c b → IsCheckpointBlock c.store c.next b
 is_block c b k = (pushed_last c.store c.next 0 c.blocks b k.blocks).2
 
+pub may_wait : (c : CheckpointView) (t : ℕ) (block : Block) (d : Option Delivered) (cause : Option KeptCause) (label : List ℕ) → MayAdd c (checkpoint_block t block d cause label) → MayWait c t block d cause label
+may_wait c t block d cause label k =
+    let b : CheckpointBlock = checkpoint_block t block d cause label in
+    let one = is_block c b k in
+    ((has_place c b k, one.label, one.covered), one.cause)
+
 -- ---- a cause
-with_stale : {E : Type 0} (P : Type 0) (stale : Bool) (r : Result Bool E) → stale ≡ true → IfOk r (λ b. IsTrue b ↔ P) → IfOk r (λ b. IsTrue b ↔ ((stale ≡ true) × P))
-with_stale P stale (Ok b) e h = (λ t. (e, h.0 t), λ q. h.1 q.1)
-with_stale P stale (Err x) e h = tt
+pub if_both : {E : Type 0} (P Q : Type 0) (r : Result Bool E) → P → IfOk r (λ b. IsTrue b ↔ Q) → IfOk r (λ b. IsTrue b ↔ (P × Q))
+if_both P Q (Ok b) p h = (λ t. (p, h.0 t), λ q. h.1 q.1)
+if_both P Q (Err x) p h = tt
 
 pub may_have : {E : Type 0} (store : List Cell) (n : ℕ) (o : Option Delivered) (p : Option KeptCause) (d : Delivered) (k : KeptCause) (r : Result Bool E) → o ≡ Some d → p ≡ Some k → d.stale ≡ true
     → IfOk r (λ b. IsTrue b ↔ IsKeptCause store n d.reads k) → IfOk r (λ b. IsTrue b ↔ MayHaveCause store n (is_stale_delivery o) (option_map held_of o) p)
 may_have store n o p d k r e f stale h =
     subst (λ (x : Option Delivered). IfOk r (λ b. IsTrue b ↔ MayHaveCause store n (is_stale_delivery x) (option_map held_of x) p)) (sym e)
-    (subst (λ (x : Option KeptCause). IfOk r (λ b. IsTrue b ↔ MayHaveCause store n d.stale (Some (held_of d)) x)) (sym f) (with_stale (IsKeptCause store n d.reads k) d.stale r stale h))
+    (subst (λ (x : Option KeptCause). IfOk r (λ b. IsTrue b ↔ MayHaveCause store n d.stale (Some (held_of d)) x)) (sym f) (if_both (d.stale ≡ true) (IsKeptCause store n d.reads k) r stale h))
 
 -- ---- what follows if a call returns
 pub on_ok : {A E : Type 0} (P Q : Type 0) (r : Result A E) → (P → Q) → OnOk r P → OnOk r Q

@@ -1,14 +1,19 @@
 -- How a machine keeps the blocks of a checkpoint, ticket by ticket, and what a checkpoint has of the blocks that a machine keeps.
-use Rattle.std.specs.Prelude.{◌≡◌, ℕ, ◌<◌, Bool, false, not, ◌&&◌, nat_eq, is_some, List, [], ◌∷◌, length, map, None}
+use Rattle.std.specs.Prelude.{◌≡◌, ℕ, ◌<◌, Bool, false, true, not, ◌&&◌, nat_eq, is_some, List, [], ◌∷◌, length, map, Option, None, option_map}
 use Rattle.std.specs.List.{list_any}
 use Rattle.stm_queue.specs.Queue.{Entry, has_ticket}
 use Rattle.stm_queue.specs.SortedTickets.{member}
 use Rattle.stm_terms.specs.Limits.{max_waiting}
+use Rattle.stm_store.specs.Cells.{plains, Covers}
+use Rattle.stm_check.specs.TypedBlock.{Block}
+use Rattle.stm_events.specs.Delivered.{Delivered}
+use Rattle.stm_events.specs.declared.kept_cause.KeptCause.{KeptCause}
+use Rattle.stm_events.specs.Labels.{is_label}
 use Rattle.stm_watch.specs.Pairs.{has_pair, is_read}
 use Rattle.stm_waiting.specs.declared.waiting.Waiting.{Waiting}
 use Rattle.stm_waiting.specs.Entries.{held_reads}
 use Rattle.stm_machine.specs.declared.checkpoint.CheckpointBlock.{CheckpointBlock}
-use Rattle.stm_machine.specs.Checkpoints.{CheckpointView}
+use Rattle.stm_machine.specs.Checkpoints.{CheckpointView, MayHaveCause, held_of, is_stale_delivery}
 use Rattle.stm_machine.specs.declared.restored.Restored.{Restored}
 use Rattle.stm_machine.specs.Entries.{held_ends}
 use Rattle.stm_machine.specs.SettleChoices.{some_out}
@@ -29,6 +34,12 @@ pub record HasPlace (c : CheckpointView) (t : ℕ) : Type 0 where
   pub few : length c.blocks < max_waiting
   pub above : last_ticket 0 c.blocks < t
   pub below : t < c.next
+
+-- the block may be added under this ticket, if it is well typed and its last delivery is right
+abbrev pub MayWait : CheckpointView → ℕ → Block → Option Delivered → Option KeptCause → List ℕ → Type 0
+MayWait c t block delivery cause label =
+    (HasPlace c t × (is_label label ≡ true) × Covers (plains c.store) block.uses)
+    × MayHaveCause c.store c.next (is_stale_delivery delivery) (option_map held_of delivery) cause
 
 -- a block by its ticket
 abbrev pub entry_of : CheckpointBlock → ℕ × Waiting

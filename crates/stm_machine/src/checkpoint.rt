@@ -10,7 +10,7 @@ ghost use Rattle.stm_events.specs.SlowDesk.{Slow};
 ghost use Rattle.stm_events.specs.States.{IsTypedState};
 ghost use Rattle.stm_events.specs.declared.staleness.StalenessRule.{StalenessRule as AnyRule};
 ghost use Rattle.stm_machine.specs.Checkpoints.{IsCheckpoint, CheckpointsArePossible, CheckpointsAreUnseen, LabelsLeaveCheckpoints, CausesLeaveCheckpoints, checkpoint_of, labelled_block, with_labels, caused_block, with_causes, differs_from, all_differ, IsKeptCause, MayHaveCause, MayHaveCauses, MayAdd, checkpoint_block, held_of, is_stale_delivery, checkpoint_state, max_next};
-ghost use Rattle.stm_machine.specs.CheckpointEntries.{EntriesRise, HasPlace, block_of, last_ticket};
+ghost use Rattle.stm_machine.specs.CheckpointEntries.{EntriesRise, HasPlace, MayWait, block_of, last_ticket};
 ghost use Rattle.stm_machine.specs.Machine.{IsAt};
 ghost use Rattle.stm_machine.specs.SettleChoices.{some_out};
 
@@ -357,21 +357,34 @@ impl Checkpoint {
         ensures refused { IsErrOf result AddError.NotPossible
             → MayAdd self.now (checkpoint_block ticket block delivery cause label) → ⊥ }
     {
-        if !self.has_place(ticket) {
-            return Err(AddError::NotPossible);
-        }
-        if !is_label(label.as_str()) {
-            return Err(AddError::NotPossible);
-        }
-        if !self.store.covers(block.block().uses()) {
-            return Err(AddError::NotPossible);
-        }
-        if !may_have_cause(alloc, &self.store, self.next, &delivery, &cause)? {
+        if !self.may_wait(alloc, ticket, &block, &delivery, &cause, &label)? {
             return Err(AddError::NotPossible);
         }
         // The block is known to be well typed by this.
         let _action = block.block().action();
         last_delivery(alloc, &self.store, ticket, block, delivery, cause, label)
+    }
+
+    /// Whether the block may be added, if it is well typed and its last delivery is right.
+    fn may_wait(
+        &self,
+        alloc: Global,
+        ticket: u32,
+        block: &SharedBlock,
+        delivery: &Option<Delivery>,
+        cause: &Option<KeptCause>,
+        label: &SharedName,
+    ) -> Result<bool, NoMemory>
+        ensures { IfOk result (λ b. IsTrue b
+            ↔ MayWait self.now ticket block.now delivery.now cause.now label.now) }
+    {
+        if !self.has_place(ticket)
+            || !is_label(label.as_str())
+            || !self.store.covers(block.block().uses())
+        {
+            return Ok(false);
+        }
+        may_have_cause(alloc, &self.store, self.next, delivery, cause)
     }
 
     /// Whether one block more may wait, under this ticket.
