@@ -140,6 +140,25 @@ fn right_reads(
     }
 }
 
+/// What is held of a delivery; `NotPossible` if the delivery isn't right.
+fn right_held(
+    alloc: Global,
+    store: &Store,
+    block: &Typed,
+    delivery: &Delivery,
+) -> Result<Held, AddError>
+    requires { Covers (plains store.now) block.now.uses }
+    ensures held { IfOk result (λ h. h ≡ held_of delivery.now) }
+    ensures right { OnOk result
+        (IsRightDelivery store.now block.now delivery.now.stale (Some (held_of delivery.now))) }
+    ensures refused { IsErrOf result AddError.NotPossible
+        → IsRightDelivery store.now block.now delivery.now.stale (Some (held_of delivery.now)) → ⊥ }
+{
+    let reads = right_reads(alloc, store, block, delivery)?;
+    let verdict = delivery.verdict().share()?;
+    Ok(Held { reads, verdict })
+}
+
 /// A block of a checkpoint with its last delivery, if there was one, its cause and its label; `NotPossible` if the delivery isn't right.
 pub(crate) fn last_delivery(
     alloc: Global,
@@ -166,13 +185,12 @@ pub(crate) fn last_delivery(
             label,
         }),
         Some(delivery) => {
-            let reads = right_reads(alloc, store, block.block(), &delivery)?;
-            let verdict = delivery.verdict().share()?;
+            let held = right_held(alloc, store, block.block(), &delivery)?;
             Ok(CheckpointBlock {
                 ticket,
                 waiting: Waiting {
                     block,
-                    held: Some(Held { reads, verdict }),
+                    held: Some(held),
                 },
                 stale: delivery.is_stale(),
                 cause,
