@@ -65,6 +65,16 @@ fn apply(store: &mut Store, verdict: &Verdict) -> Result<(), NoMemory>
     }
 }
 
+/// A copy of the store after these writes.
+fn frozen_after(store: &Store, writes: &Verdict) -> Result<Frozen, NoMemory>
+    requires { Fits (plains store.now) writes.now }
+    ensures { IfOk result (λ f. f ≡ plains (applied store.now writes.now)) }
+{
+    let mut changed = store.share()?;
+    apply(&mut changed, writes)?;
+    changed.freeze()
+}
+
 /// A copy of the store with these values in place; `NotPossible` if they don't fit it.
 fn store_then(alloc: Global, store: &Store, values: &[(u32, Value)]) -> Result<Frozen, AddError>
     ensures store { IfOk result (λ f. f ≡ plains (store_with values.now store.now)) }
@@ -76,9 +86,7 @@ fn store_then(alloc: Global, store: &Store, values: &[(u32, Value)]) -> Result<F
     if !store.fits(&writes) {
         return Err(AddError::NotPossible);
     }
-    let mut changed = store.share()?;
-    apply(&mut changed, &writes)?;
-    Ok(changed.freeze()?)
+    Ok(frozen_after(store, &writes)?)
 }
 
 /// What the block reads on a store that has what it read; `NotPossible` if it reads something else there or has another verdict.
