@@ -7,9 +7,9 @@ ghost use Rattle.stm_events.specs.declared.event.Event.{Event as AnyEvent};
 ghost use Rattle.stm_store.specs.Tables.{Declared};
 ghost use Rattle.stm_store.specs.Naming.{Named};
 ghost use Rattle.stm_source.specs.LaterNames.{NamesFollow};
-ghost use Rattle.stm_event_lines.specs.Fields.{event_of as event_meant, header_of as header_meant, what_of as what_meant, if_label as if_label_meant, labelled_of, what_in as what_in_meant, if_named as if_named_meant, declared_event_of, client_field, submitted_of, installed_of, finished_of, declared_from_json as variable_meant, type_in as type_meant, text_field};
+ghost use Rattle.stm_event_lines.specs.Fields.{event_of as event_meant, header_of as header_meant, what_of as what_meant, if_label as if_label_meant, labelled_of, what_in as what_in_meant, if_named as if_named_meant, declared_event_of, client_field, submitted_of, installed_of, finished_of, declared_from_json as variable_meant, type_in as type_meant, text_field, verdict_field, list_field, u32_of};
 ghost use Rattle.stm_terms.specs.Limits.{most_refs, max_clients};
-ghost use Rattle.stm_event_lines.specs.Fits.{Is32Bit, FitsNames, WhatFitsNames, FitsValue, FitsVariable};
+ghost use Rattle.stm_event_lines.specs.Fits.{Is32Bit, FitsNames, WhatFitsNames, FitsValue, FitsVariable, FitsVerdict, FitNumbers};
 ghost use Rattle.stm_event_lines.specs.Lines.{IsFormat, event_line, header_line, variable_line};
 ghost use Rattle.stm_event_lines.specs.Variables.{declared};
 
@@ -95,15 +95,34 @@ fn submitted(
     }
 }
 
+/// The verdict of an event, where many may hold it.
+fn shared_verdict(alloc: Global, json: &Json) -> Result<Option<SharedVerdict>, NoMemory>
+    ensures value { IfOk result (λ o. o ≡ verdict_field (view json.now)) }
+    ensures fits { IfOk result (λ o. IfSome o (λ v. FitsVerdict v)) }
+{
+    match verdict_at(alloc, json, "verdict")? {
+        Some(verdict) => Ok(Some(SharedVerdict::new(alloc, verdict)?)),
+        None => Ok(None),
+    }
+}
+
 fn installed(alloc: Global, json: &Json, ticket: u32) -> Result<Option<What>, NoMemory>
     ensures value { IfOk result (λ o. o ≡ installed_of (view json.now) ticket) }
     ensures fits { IfOk result (λ o. IfSome o (λ w. (t : List Named) → WhatFitsNames t w)) }
 {
-    match verdict_at(alloc, json, "verdict")? {
-        Some(verdict) => Ok(Some(What::Installed {
-            ticket,
-            verdict: SharedVerdict::new(alloc, verdict)?,
-        })),
+    match shared_verdict(alloc, json)? {
+        Some(verdict) => Ok(Some(What::Installed { ticket, verdict })),
+        None => Ok(None),
+    }
+}
+
+/// The tickets that a finish makes stale.
+fn stale_tickets(alloc: Global, json: &Json) -> Result<Option<Tickets>, NoMemory>
+    ensures value { IfOk result (λ o. o ≡ list_field u32_of (codes "stale") (view json.now)) }
+    ensures fits { IfOk result (λ o. IfSome o (λ t. FitNumbers t)) }
+{
+    match numbers_at(alloc, json, "stale")? {
+        Some(stale) => Ok(Some(Tickets::new(alloc, stale)?)),
         None => Ok(None),
     }
 }
@@ -112,21 +131,21 @@ fn finished(alloc: Global, json: &Json, ticket: u32) -> Result<Option<What>, NoM
     ensures value { IfOk result (λ o. o ≡ finished_of (view json.now) ticket) }
     ensures fits { IfOk result (λ o. IfSome o (λ w. (t : List Named) → WhatFitsNames t w)) }
 {
-    let Some(verdict) = verdict_at(alloc, json, "verdict")? else {
-        return Ok(None);
-    };
     let Some(first_new) = number_at(json, "first_new") else {
         return Ok(None);
     };
-    let Some(stale) = numbers_at(alloc, json, "stale")? else {
+    let Some(verdict) = shared_verdict(alloc, json)? else {
         return Ok(None);
     };
-    Ok(Some(What::Finished {
-        ticket,
-        verdict: SharedVerdict::new(alloc, verdict)?,
-        first_new,
-        stale: Tickets::new(alloc, stale)?,
-    }))
+    match stale_tickets(alloc, json)? {
+        Some(stale) => Ok(Some(What::Finished {
+            ticket,
+            verdict,
+            first_new,
+            stale,
+        })),
+        None => Ok(None),
+    }
 }
 
 /// The label of a ticket, if the text is one.
