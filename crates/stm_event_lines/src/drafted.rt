@@ -7,7 +7,7 @@ ghost use Rattle.stm_event_lines.specs.Lines.{event_line};
 ghost use Rattle.stm_terms.specs.Limits.{max_clients};
 
 use crate::draft::{Draft, DraftVerdict, draft_of};
-use crate::write::event_text;
+use crate::write::is_line_of;
 use std::alloc::Global;
 use stm_events::event::{Event, What};
 use stm_events::shared_verdict::SharedVerdict;
@@ -198,8 +198,7 @@ pub fn drafted_event(
     let Some(event) = event_of(alloc, known, draft, blocks)? else {
         return Ok(None);
     };
-    let again = event_text(alloc, &event)?;
-    if again.as_bytes() == line {
+    if is_line_of(alloc, &event, line)? {
         Ok(Some(event))
     } else {
         Ok(None)

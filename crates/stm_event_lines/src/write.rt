@@ -1,6 +1,6 @@
 //! The text of a line.
 
-ghost use Rattle.std.specs.Prelude.{◌≡◌, string_bytes, IfOk, OnOk, map, codes};
+ghost use Rattle.std.specs.Prelude.{◌≡◌, ◌↔◌, IsTrue, string_bytes, IfOk, OnOk, map, codes};
 ghost use Rattle.serde_json.specs.Data.{array, string};
 ghost use Rattle.serde_json.specs.Events.{SendsValue};
 ghost use Rattle.serde_json.specs.View.{view, items_of};
@@ -229,6 +229,14 @@ pub fn event_text(alloc: Global, event: &Event) -> Result<String, NoMemory>
         Ok(text) => Ok(text),
         Err(_) => Err(NoMemory),
     }
+}
+
+/// Whether the line is the event's.
+pub(crate) fn is_line_of(alloc: Global, event: &Event, line: &[u8]) -> Result<bool, NoMemory>
+    ensures { IfOk result (λ r. IsTrue r ↔ (event_line event.now ≡ line.now)) }
+{
+    let text = event_text(alloc, event)?;
+    Ok(text.as_bytes() == line)
 }
 
 fn header_json(alloc: Global, format: u32, vars: u32) -> Result<Json, NoMemory>
