@@ -19,7 +19,7 @@ use crate::formats::is_format;
 use crate::parts::numbers_at;
 use crate::variable::Variable;
 use crate::verdicts::verdict_at;
-use crate::write::{event_text, header_text, variable_text};
+use crate::write::{header_text, is_line_of, variable_text};
 use serde_json::Value as Json;
 use std::alloc::Global;
 use stm_events::event::{Event, What};
@@ -274,6 +274,18 @@ pub fn event_of(
     }
 }
 
+/// The event, if the line is its.
+fn if_line(alloc: Global, event: Event, line: &[u8]) -> Result<Event, LineError>
+    ensures ok { IfOk result (λ e. (e ≡ event) × (event_line e ≡ line.now)) }
+    ensures bad { IsErrOf result LineError.Bad → event_line event ≢ line.now }
+{
+    if is_line_of(alloc, &event, line)? {
+        Ok(event)
+    } else {
+        Err(LineError::Bad)
+    }
+}
+
 /// The event that the value represents, if the line is that event's.
 fn event_in(
     alloc: Global,
@@ -292,12 +304,7 @@ fn event_in(
     let Some(event) = event_of(alloc, known, json, blocks)? else {
         return Err(LineError::Bad);
     };
-    let again = event_text(alloc, &event)?;
-    if again.as_bytes() == line {
-        Ok(event)
-    } else {
-        Err(LineError::Bad)
-    }
+    if_line(alloc, event, line)
 }
 
 /// Reads a line as `read_event` does, by its JSON value.
