@@ -612,6 +612,29 @@ fn cause_at(alloc: Global, json: &Json) -> Result<Option<Option<KeptCause>>, NoM
     }
 }
 
+/// Why the block is stale, its label, and what its last delivery brought, if the value has all three.
+fn state_of(
+    alloc: Global,
+    json: &Json,
+) -> Result<Option<(Option<KeptCause>, SharedName, Option<Delivery>)>, NoMemory>
+    ensures value { IfOk result (λ o. o ≡ option_and_then (λ cause. option_and_then (λ label.
+        option_map (λ delivery. (cause, label, delivery)) (delivery_meant (view json.now)))
+        (label_field (view json.now)))
+        (cause_field (view json.now))) }
+    ensures fits { IfOk result (λ o. IfSome o (λ s. FitsCause s.0 × IsTrue (is_label s.1) × FitsDelivery s.2)) }
+{
+    let Some(cause) = cause_at(alloc, json)? else {
+        return Ok(None);
+    };
+    let Some(label) = label_at(alloc, json)? else {
+        return Ok(None);
+    };
+    match delivery_of(alloc, json)? {
+        Some(delivery) => Ok(Some((cause, label, delivery))),
+        None => Ok(None),
+    }
+}
+
 /// The waiting block that the value represents, if it does.
 pub(crate) fn waiting_of(
     alloc: Global,
@@ -628,14 +651,8 @@ pub(crate) fn waiting_of(
     let Some(block) = block_at(alloc, known, json)? else {
         return Ok(None);
     };
-    let Some(cause) = cause_at(alloc, json)? else {
-        return Ok(None);
-    };
-    let Some(label) = label_at(alloc, json)? else {
-        return Ok(None);
-    };
-    match delivery_of(alloc, json)? {
-        Some(delivery) => Ok(Some(WaitingBlock {
+    match state_of(alloc, json)? {
+        Some((cause, label, delivery)) => Ok(Some(WaitingBlock {
             ticket,
             block,
             cause,
