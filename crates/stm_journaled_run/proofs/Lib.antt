@@ -5,6 +5,7 @@ pub mod RecordedEvents
 pub mod Committing
 pub mod Turns
 pub mod Taking
+pub mod LineOutcomes
 pub mod Running
 pub mod Ended
 pub mod RunCrashes
