@@ -8,6 +8,7 @@ pub mod Taking
 pub mod LineOutcomes
 pub mod Running
 pub mod Ended
+pub mod SessionEnded
 pub mod RunCrashes
 pub mod TakenLines
 pub mod ResumedQueue
