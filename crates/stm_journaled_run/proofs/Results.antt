@@ -1,5 +1,5 @@
 -- What holds anyhow holds by the result.
-use Rattle.std.proofs.Common.{◌≡◌, Result, Ok, Err, OnOk}
+use Rattle.std.proofs.Common.{◌≡◌, Bool, true, false, Result, Ok, Err, OnOk}
 use Rattle.stm_journal.specs.declared.error.JournalError.{JournalError}
 use Rattle.stm_journal.specs.Device.{Own, HasCause}
 
@@ -17,3 +17,16 @@ passed_on fault own r e is h =
       too_long = λ i. h.too_long (cc (is, i));
       torn_too_long = λ i. h.torn_too_long (cc (is, i));
     }
+
+-- ---- results that differ
+pub ok_not_err : {A E : Type 0} {P : Type 0} (x : A) (e : E) → ◌≡◌ {A = Result A E} (Ok x) (Err e) → P
+ok_not_err x e is = absurd (cc is)
+
+pub err_not_ok : {A E : Type 0} {P : Type 0} (e : E) (x : A) → ◌≡◌ {A = Result A E} (Err e) (Ok x) → P
+err_not_ok e x is = absurd (cc is)
+
+pub no_more : {E : Type 0} {P : Type 0} → ◌≡◌ {A = Result Bool E} (Ok false) (Ok true) → P
+no_more is = absurd (cc is)
+
+pub same_error : {A E : Type 0} (e f : E) → ◌≡◌ {A = Result A E} (Err e) (Err f) → e ≡ f
+same_error e f is = cc is

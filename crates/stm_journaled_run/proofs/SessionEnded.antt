@@ -1,13 +1,17 @@
 -- How a session ends, by what its last call returned.
-use Rattle.std.proofs.Common.{◌≡◌, inr, ℕ, List, Bool, false, IsTrue, Option, Result, Ok, Err, OnOk, IfErr, IfSome, sym, subst}
+use Rattle.std.proofs.Common.{◌≡◌, ◌≢◌, inr, ℕ, List, Bool, false, IsTrue, Option, Result, Ok, Err, OnOk, IfErr, IfSome, sym, subst}
 use Rattle.std.specs.Prelude.{MatchBool}
 use Rattle.std.specs.Io.KnownBytes.{Appends}
 use Rattle.stm_journal.specs.declared.sync_mode.SyncMode.{SyncMode}
+use Rattle.stm_journal.specs.Disk.{Disk}
 use Rattle.stm_lines.specs.Lines.{lines_of}
+use Rattle.stm_lines.specs.declared.run_fault.RunFault.{RunFault}
+use Rattle.stm_lines.specs.declared.run_fault.RunFault.TheVariants.{Read}
 use Rattle.stm_run.specs.declared.console.Console.{Console}
 use Rattle.stm_run.specs.LineCheckpoints.{ForTurns, states_after, turn_lines}
 use Rattle.stm_journaled_run.specs.declared.fault.DurableFault.{DurableFault}
-use Rattle.stm_journaled_run.specs.DurableRun.{LeavesBetween}
+use Rattle.stm_journaled_run.specs.declared.fault.DurableFault.TheVariants.{Run, Journal}
+use Rattle.stm_journaled_run.specs.DurableRun.{LeavesBetween, RunsUnlessDisk}
 use Rattle.stm_journaled_run.specs.Committing.{HasCome, HasComeToEnd, HasFinished, HasNotWritten}
 use Rattle.stm_journaled_run.proofs.Committing.{finished, failed}
 use Rattle.stm_journaled_run.proofs.Running.{FailedOver, all_finished, failed_run, failed_synced, last_begins}
@@ -15,6 +19,18 @@ use Rattle.stm_journaled_run.proofs.Running.{FailedOver, all_finished, failed_ru
 -- an error that is passed on
 pub passed_fault : (P : DurableFault → Type 0) (r : Result Unit DurableFault) (f e : DurableFault) → r ≡ Err f → f ≡ e → P e → IfErr r P
 passed_fault P r f e is same h = subst (λ (q : Result Unit DurableFault). IfErr q P) (sym is) (subst P (sym same) h)
+
+-- faults of a run aren't the journal's
+pub run_cause : {D : Type 0} (disk : Disk D) (f : RunFault) → RunsUnlessDisk disk (Run f)
+run_cause disk f = λ honest. record { failed = λ e. absurd (cc e); no_space = λ e. absurd (cc e); torn_too_long = λ e. cc e }
+
+pub same_fault : (f e : RunFault) → Run f ≡ Run e → f ≡ e
+same_fault f e is = cc is
+
+-- what a commit leaves unwritten is no fault of the reader
+pub not_read : (e : DurableFault) (old new : Option (List ℕ)) (text : List ℕ) (kept : Type 0) → HasNotWritten e old new text kept → e ≢ Run Read
+not_read (Run f) old new text kept h = λ i. h.0 (cc i)
+not_read (Journal f) old new text kept h = λ i. cc i
 
 module _ {Cause : Type 0} (K : Console → Type 0) (every : ℕ) (s : Console) (input old new : Option (List ℕ)) (console : Console) (held : List ℕ) (recorded : ℕ) where
   -- no line is left
