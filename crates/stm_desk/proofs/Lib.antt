@@ -5,6 +5,7 @@ pub mod CausesTold
 pub mod Checkpointed
 pub mod CheckpointLabels
 pub mod DrainServes
+pub mod EachChange
 pub mod Evaluating
 pub mod EventsSince
 pub mod FoundCauses

@@ -1,6 +1,6 @@
 //! Why a block waits.
 
-ghost use Rattle.std.specs.Prelude.{◌≡◌, ◌∷◌, [], Some, nat_eq, MatchOption, IfOk, if◌then◌else◌, is_some, option_map};
+ghost use Rattle.std.specs.Prelude.{◌≡◌, ◌++◌, Some, nat_eq, IfOk, OnOk, if◌then◌else◌, is_some, option_map, option_to_list};
 ghost use Rattle.std.specs.List.{list_any};
 ghost use Rattle.std.specs.Option.{option_copied};
 ghost use Rattle.stm_terms.specs.Changes.{find as value_in};
@@ -240,20 +240,26 @@ fn changes_in(
 {
     let mut changes = Vec::new(alloc);
     for (variable, read) in reads {
-        if let Some(change) = change_of(*variable, *read, writes, first_new) {
-            changes.push(change)?;
-        }
+        push_if_some(&mut changes, change_of(*variable, *read, writes, first_new))?;
     }
     Ok(changes)
+}
+
+/// One change more, if there is one.
+fn push_if_some(changes: &mut Vec<Change>, change: Option<Change>) -> Result<(), NoMemory>
+    ensures { OnOk result (changes.new.items ≡ changes.old.items ++ option_to_list change) }
+{
+    match change {
+        None => Ok(()),
+        Some(change) => Ok(changes.push(change)?),
+    }
 }
 
 /// The change of one variable, if there is one.
 fn change_of(variable: u32, read: Value, writes: &[(u32, Value)], first_new: u32) -> Option<Change>
     requires rising { Rising writes.now }
     requires writable { AreWritable first_new writes.now }
-    ensures { MatchOption result
-        (change_to variable read (left_by_writes first_new writes.now variable) ≡ [])
-        (λ c. change_to variable read (left_by_writes first_new writes.now variable) ≡ c ∷ []) }
+    ensures { option_to_list result ≡ change_to variable read (left_by_writes first_new writes.now variable) }
 {
     match find(writes, variable) {
         None => None,
@@ -263,9 +269,7 @@ fn change_of(variable: u32, read: Value, writes: &[(u32, Value)], first_new: u32
 
 /// The change of a variable to this value, unless it is the one that was read.
 fn change_to(variable: u32, read: Value, left: Value) -> Option<Change>
-    ensures { MatchOption result
-        (change_to variable read (Some left) ≡ [])
-        (λ c. change_to variable read (Some left) ≡ c ∷ []) }
+    ensures { option_to_list result ≡ change_to variable read (Some left) }
 {
     if is_same(read, left) {
         None
@@ -288,18 +292,14 @@ fn changes_again(
 {
     let mut changes = Vec::new(alloc);
     for (variable, read) in reads {
-        if let Some(change) = change_again(*variable, *read, left) {
-            changes.push(change)?;
-        }
+        push_if_some(&mut changes, change_again(*variable, *read, left))?;
     }
     Ok(changes)
 }
 
 /// The change of one variable to the value that was left, if there is one.
 fn change_again(variable: u32, read: Value, left: &[(u32, Value)]) -> Option<Change>
-    ensures { MatchOption result
-        (change_to variable read (value_in variable left.now) ≡ [])
-        (λ c. change_to variable read (value_in variable left.now) ≡ c ∷ []) }
+    ensures { option_to_list result ≡ change_to variable read (value_in variable left.now) }
 {
     match value_left(left, variable) {
         None => None,
