@@ -1,6 +1,6 @@
 //! A transaction at once.
 
-ghost use Rattle.std.specs.Prelude.{◌≡◌, ◌≢◌, ◌+◌, ◌<◌, ◌≤◌, ◌++◌, ◌∷◌, [], true, false, None, Some, IfOk, OnOk, IfErr, OnErr, IsErrOf, IfSome, vec_len, vec_capacity};
+ghost use Rattle.std.specs.Prelude.{◌≡◌, ◌≢◌, ◌+◌, ◌<◌, ◌≤◌, ◌++◌, ◌∷◌, [], true, false, None, Some, IfOk, OnOk, IfErr, OnErr, IsErrOf, IfSome, if◌then◌else◌, vec_len, vec_capacity};
 ghost use Rattle.stm_store.specs.Cells.{plains, Fits, applied_answer as told_of};
 ghost use Rattle.stm_events.specs.Refusals.{overflows, submit_refused};
 ghost use Rattle.stm_events.specs.SlowAtomically.{atomically};
@@ -219,6 +219,44 @@ impl Desk {
         Ok((ticket, finish_by(plan, applied)))
     }
 
+    /// A block whose verdict is known, and that nothing refuses, is run atomically.
+    fn run_allowed(
+        &mut self,
+        client: u32,
+        block: SharedBlock,
+        verdict: SharedVerdict,
+        scratch: &Scratch,
+        waits: bool,
+    ) -> Result<Ran, NoMemory>
+        requires client { client < max_clients }
+        requires allowed { submit_refused (state_of self.old) false block ≡ None }
+        requires room { lacks_room self.old (if waits then 2 else 3) ≡ false }
+        requires verdict { IsVerdictOf (state_of self.old) block verdict scratch.now }
+        requires waits { is_blocks verdict ≡ waits }
+        requires cells { overflows (state_of self.old).store (Some verdict) ≡ false }
+        ensures accepted { OnOk result (self.new
+            ≡ with_whats self.old client (atomically (state_of self.old) block)) }
+        ensures events { IfOk result (λ r. atomically (state_of self.old) block ≡ whats_ran block r) }
+        ensures ticket { IfOk result (λ r. r.ticket ≡ (state_of self.old).next) }
+        ensures applied { IfOk result (λ r. IfSome r.finish (λ f. f.applied
+            ≡ told_of (state_of self.old).store f.verdict)) }
+        ensures unchanged { OnErr result (self.new ≡ self.old) }
+    {
+        if waits {
+            let ticket = self.submit_current(client, block, verdict, scratch)?;
+            Ok(Ran {
+                ticket,
+                finish: None,
+            })
+        } else {
+            let (ticket, finish) = self.finish_at_once(client, block, &verdict)?;
+            Ok(Ran {
+                ticket,
+                finish: Some(finish),
+            })
+        }
+    }
+
     /// A block whose verdict is known is run atomically.
     fn run_by(
         &mut self,
@@ -250,19 +288,7 @@ impl Desk {
             return Err(AtomicError::CellsFull);
         }
         let verdict = SharedVerdict::new(*self.history.allocator(), verdict)?;
-        if waits {
-            let ticket = self.submit_current(client, block, verdict, scratch)?;
-            Ok(Ran {
-                ticket,
-                finish: None,
-            })
-        } else {
-            let (ticket, finish) = self.finish_at_once(client, block, &verdict)?;
-            Ok(Ran {
-                ticket,
-                finish: Some(finish),
-            })
-        }
+        Ok(self.run_allowed(client, block, verdict, scratch, waits)?)
     }
 
     /// Runs a block at once: it is submitted, evaluated on the present store, and finished if it doesn't block; if it does, it waits
