@@ -1,6 +1,6 @@
 //! A variable that is declared after the first command.
 
-ghost use Rattle.std.specs.Prelude.{◌≡◌, ◌<◌, false, length, IsTrue, IfOk, OnOk, OnErr};
+ghost use Rattle.std.specs.Prelude.{◌≡◌, ◌<◌, false, None, length, IsTrue, IfOk, OnOk, OnErr};
 ghost use Rattle.stm_terms.specs.Names.{is_name_text};
 ghost use Rattle.stm_terms.specs.UnlessNoMemory.{RefusedAs};
 ghost use Rattle.stm_terms.specs.Limits.{max_clients};
@@ -65,9 +65,27 @@ impl Desk {
         ensures unchanged { OnErr result (self.new ≡ self.old) }
     {
         match self.may_declare(name, kind, value) {
-            Ok(()) => {}
-            Err(refusal) => return Err(refusal),
+            Ok(()) => Ok(self.declare_allowed(client, name, kind, value)?),
+            Err(refusal) => Err(refusal),
         }
+    }
+
+    /// Declares a variable that nothing refuses.
+    fn declare_allowed(
+        &mut self,
+        client: u32,
+        name: &str,
+        kind: Ty,
+        value: Value,
+    ) -> Result<u32, NoMemory>
+        requires client { client < max_clients }
+        requires name { IsTrue (is_name_text name.now) }
+        requires allowed { late_declare_refusal self.old name.now kind value ≡ None }
+        requires room { is_full self.old ≡ false }
+        ensures accepted { OnOk result (self.new ≡ with_event self.old client (DeclaredLate name.now kind value)) }
+        ensures number { IfOk result (λ i. i ≡ length (state_of self.old).store) }
+        ensures unchanged { OnErr result (self.new ≡ self.old) }
+    {
         let alloc = *self.history.allocator();
         let shared = shared_name(alloc, name)?;
         self.history.reserve(1)?;
