@@ -1,6 +1,6 @@
 //! A label of a waiting block.
 
-ghost use Rattle.std.specs.Prelude.{◌≡◌, ◌<◌, true, false, OnOk, OnErr};
+ghost use Rattle.std.specs.Prelude.{◌≡◌, ◌<◌, true, false, None, OnOk, OnErr};
 ghost use Rattle.stm_terms.specs.UnlessNoMemory.{RefusedAs};
 ghost use Rattle.stm_events.specs.Labels.{is_label, label_of};
 ghost use Rattle.stm_terms.specs.Limits.{max_clients};
@@ -12,6 +12,7 @@ ghost use Rattle.stm_desk.specs.Refusals.{label_refusal};
 use crate::declare::shared_name;
 use crate::desk::Desk;
 use stm_events::{Event, LabelError, What};
+use stm_terms::NoMemory;
 
 /// The desk's answer by the machine's, which knows no limit of events.
 fn limit_label(full: bool, answer: Result<(), LabelError>) -> Result<(), LabelError>
@@ -49,9 +50,20 @@ impl Desk {
         ensures unchanged { OnErr result (self.new ≡ self.old) }
     {
         match self.may_label(ticket) {
-            Ok(()) => {}
-            Err(refusal) => return Err(refusal),
+            Ok(()) => Ok(self.label_allowed(client, ticket, label)?),
+            Err(refusal) => Err(refusal),
         }
+    }
+
+    /// Gives a label that nothing refuses.
+    fn label_allowed(&mut self, client: u32, ticket: u32, label: &str) -> Result<(), NoMemory>
+        requires client { client < max_clients }
+        requires label { is_label label.now ≡ true }
+        requires allowed { label_refusal self.old ticket ≡ None }
+        requires room { is_full self.old ≡ false }
+        ensures accepted { OnOk result (self.new ≡ with_event self.old client (Labelled ticket label.now)) }
+        ensures unchanged { OnErr result (self.new ≡ self.old) }
+    {
         let shared = shared_name(*self.history.allocator(), label)?;
         let kept = shared.share()?;
         self.history.reserve(1)?;
