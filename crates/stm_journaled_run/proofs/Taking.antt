@@ -5,6 +5,7 @@ use Rattle.std.proofs.lemmas.Bool.Decides.{nat_tests}
 use Rattle.std.proofs.lemmas.Bool.{le-leb, lt-ltb}
 use Rattle.stm_journal.specs.declared.error.JournalError.{JournalError}
 use Rattle.stm_journal.specs.declared.error.JournalError.TheVariants.{NoMemory}
+use Rattle.stm_lines.specs.declared.run_fault.RunFault.{RunFault}
 use Rattle.stm_lines.specs.declared.run_fault.RunFault.TheVariants.{NoMemory as NoMemoryLeft}
 use Rattle.stm_journal.specs.Disk.{Disk, LeavesOnly}
 use Rattle.stm_journal.proofs.Moments.{weaker}
@@ -26,9 +27,9 @@ use Rattle.stm_run.proofs.EventsOfConsole.{grows_not}
 use Rattle.stm_journaled_run.specs.declared.session.Taken.{Taken}
 use Rattle.stm_journaled_run.specs.declared.session.Taken.TheVariants.{Held, Begun, Unmade, Streamed}
 use Rattle.stm_journaled_run.specs.declared.fault.DurableFault.{DurableFault}
-use Rattle.stm_journaled_run.specs.declared.fault.DurableFault.TheVariants.{Run}
+use Rattle.stm_journaled_run.specs.declared.fault.DurableFault.TheVariants.{Run, Journal}
 use Rattle.stm_journaled_run.specs.declared.session.Tried.TheVariants.{Made, TicketsFull, RefusedByFile}
-use Rattle.stm_journaled_run.specs.DurableRun.{ConsoleKept, KeepsConsole, KeepsConsoles, RecordsUnlessDisk, RefusalCause, LeavesBetween}
+use Rattle.stm_journaled_run.specs.DurableRun.{ConsoleKept, KeepsConsole, KeepsConsoles, RecordsUnlessDisk, RunsUnlessDisk, RefusalCause, LeavesBetween}
 use Rattle.stm_journaled_run.specs.NewEvents.{MayBeginRun}
 use Rattle.stm_journaled_run.specs.Committing.{MayBeginAnew, asked_step, no_checkpoint_text, HasTriedCheckpoint, HasTakenLine, HasNotTaken, TakingLeaves, BeginningLeaves, BeginningLeavesEither}
 use Rattle.stm_journaled_run.proofs.Committing.{none_due, anew_after}
@@ -173,15 +174,18 @@ module _ {D : Type 0} (disk : Disk D) (f : HistoryFile D) (now : (c : List ℕ) 
   either_still t = λ honest c. still c.committed (asked_step t).0 (c.kept.1 honest)
 
 -- ---- a checkpoint that was tried
+-- why it can't be recorded
+pub record_cause : {D : Type 0} (disk : Disk D) (e : JournalError) → RecordsUnlessDisk {T = Unit} disk (Err e) → RunsUnlessDisk disk (Journal e)
+record_cause disk e h = λ honest.
+    let k = h honest in
+    record { failed = λ i. k.failed (cc i); no_space = λ i. k.no_space (cc i); torn_too_long = λ i. k.torn_too_long (cc i) }
+
+pub journal_not_run : (e : JournalError) (f : RunFault) → Journal e ≡ Run f → ⊥
+journal_not_run e f is = cc is
+
 -- why the file refused it
 pub refusal_cause : {D : Type 0} (disk : Disk D) (e : JournalError) → e ≢ NoMemory → RecordsUnlessDisk {T = Unit} disk (Err e) → RefusalCause disk
-refusal_cause disk e not h = record {
-  error = e;
-  not_memory = not;
-  cause = λ honest.
-      let k = h honest in
-      record { failed = λ i. k.failed (cc i); no_space = λ i. k.no_space (cc i); torn_too_long = λ i. k.torn_too_long (cc i) };
-}
+refusal_cause disk e not h = record { error = e; not_memory = not; cause = record_cause disk e h }
 
 module _ {D : Type 0} (disk : Disk D) (old new : HistoryFile D) (s t : Console) (n n' : ℕ) where
   pub made_tried : (count : ℕ) → t ≡ with_checkpoint s → count ≡ length (events_of s) → n' ≡ zero → are_tickets_full (present_desk s) ≡ false → KeepsConsole disk new (with_checkpoint s) → MayBeginRun (with_checkpoint s)
