@@ -153,13 +153,13 @@ impl Checker<'_> {
             alloc: self.alloc,
             known: self.known,
             text: self.text,
-            locals: &Scope::Local(
-                local,
-                INT,
-                count(self.locals),
-                bits_with(self.locals, local),
-                self.locals,
-            ),
+            locals: &Scope::Local {
+                name: local,
+                kind: INT,
+                number: count(self.locals),
+                bits: bits_with(self.locals, local),
+                outer: self.locals,
+            },
         };
         let (b, handled) = inner.check_part(uses, handler)?;
         let Some(kind) = join(returned, handled) else {
@@ -192,13 +192,13 @@ impl Checker<'_> {
             alloc: self.alloc,
             known: self.known,
             text: self.text,
-            locals: &Scope::Local(
-                local,
+            locals: &Scope::Local {
+                name: local,
                 kind,
-                count(self.locals),
-                bits_with(self.locals, local),
-                self.locals,
-            ),
+                number: count(self.locals),
+                bits: bits_with(self.locals, local),
+                outer: self.locals,
+            },
         };
         let (b, kind) = inner.check_part(uses, rest)?;
         Ok((Action::Bind(a, b), kind))
@@ -224,13 +224,13 @@ impl Checker<'_> {
             alloc: self.alloc,
             known: self.known,
             text: self.text,
-            locals: &Scope::Local(
-                local,
+            locals: &Scope::Local {
+                name: local,
                 kind,
-                count(self.locals),
-                bits_with(self.locals, local),
-                self.locals,
-            ),
+                number: count(self.locals),
+                bits: bits_with(self.locals, local),
+                outer: self.locals,
+            },
         };
         let (b, kind) = inner.check_part(uses, rest)?;
         Ok((Action::Let(a, b), kind))

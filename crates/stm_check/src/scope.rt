@@ -14,7 +14,13 @@ use stm_terms::kinds::Ty;
 #[derive(Drop)]
 pub(crate) enum Scope<'a> {
     Empty,
-    Local(&'a str, Ty, u32, u64, &'a Scope<'a>),
+    Local {
+        name: &'a str,
+        kind: Ty,
+        number: u32,
+        bits: u64,
+        outer: &'a Scope<'a>,
+    },
 }
 
 /// How many locals there are.
@@ -25,7 +31,7 @@ pub(crate) fn count(locals: &Scope) -> u32
 {
     match locals {
         Scope::Empty => 0,
-        Scope::Local(_, _, number, _, _) => *number + 1,
+        Scope::Local { number, .. } => *number + 1,
     }
 }
 
@@ -48,7 +54,7 @@ fn bits(locals: &Scope) -> u64
 {
     match locals {
         Scope::Empty => 0,
-        Scope::Local(_, _, _, bits, _) => *bits,
+        Scope::Local { bits, .. } => *bits,
     }
 }
 
@@ -77,7 +83,13 @@ fn walk(locals: &Scope, name: &str) -> Option<(u32, Ty)>
 {
     match locals {
         Scope::Empty => None,
-        Scope::Local(own, kind, number, _, outer) => {
+        Scope::Local {
+            name: own,
+            kind,
+            number,
+            outer,
+            ..
+        } => {
             if *own == name {
                 Some((*number, *kind))
             } else {
