@@ -15,6 +15,7 @@ ghost use Rattle.stm_source.specs.LaterNames.{NamesFollow};
 use crate::block::{compile_shared, unless_refused};
 use crate::refusal::Refusal;
 use std::alloc::Global;
+use std::hash::{FoldHasher, Hasher};
 use std::marker::Model;
 use std::snapshot::Snapshot;
 use stm_check::SharedBlock;
@@ -33,13 +34,11 @@ const PLACES: usize = GROUPS * WAYS;
 /// How many bytes the texts of all kept blocks may have.
 const MOST_BYTES: usize = 1_048_576;
 
-/// The Fowler-Noll-Vo hash of a text's bytes.
+/// The hash of a text. It takes 16 bytes at a time.
 fn hash_of(text: &str) -> u64 {
-    let mut hash: u64 = 14_695_981_039_346_656_037;
-    for byte in text.as_bytes() {
-        hash = (hash ^ *byte as u64).wrapping_mul(1_099_511_628_211);
-    }
-    hash
+    let mut hasher = FoldHasher::default();
+    hasher.write(text.as_bytes());
+    hasher.finish()
 }
 
 /// The first of the places that the block of a text may have, by its hash.
