@@ -270,7 +270,9 @@ impl Checker<'_> {
     }
 
     /// The action with its names resolved, and the type of its result, with none for any; or the first fault.
+    // An action is moved by value; a call that isn't inlined copies it.
     #[cycle(actions)]
+    #[inline(always)]
     pub(crate) fn check_action(&self, uses: &mut Vec<(u32, Ty)>, raw: &RawAction) -> Checked
         requires { CanCheck self.now (raw_act_of raw.now) }
         ensures { ChecksAction self.now (raw_act_of raw.now)

@@ -165,6 +165,8 @@ impl Model for SharedBlock {
 
 impl SharedBlock {
     /// Makes a block that many may hold.
+    // A block is moved by value; a call that isn't inlined copies it.
+    #[inline(always)]
     pub fn new(alloc: Global, block: Typed) -> Result<SharedBlock, NoMemory>
         ensures { IfOk result (λ s. s ≡ block) }
     {

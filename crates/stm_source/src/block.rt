@@ -19,6 +19,8 @@ use stm_store::{DeclareError, Names};
 use stm_terms::NoMemory;
 
 /// The block of a text. Each store that has the named variables has those that it names.
+// A block is moved by value; a call that isn't inlined copies it.
+#[inline(always)]
 #[tactic(auto, using(crate::proofs::UsesAreCovered::named_cover), unfolding(crate::specs::CompiledBlock::compiled_block))]
 pub fn compile_block(alloc: Global, known: &Names, text: &str) -> Result<Typed, Refusal>
     ensures block { AnswersExcept IsOutOfMemory (λ b. b) result
