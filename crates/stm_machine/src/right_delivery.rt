@@ -167,6 +167,36 @@ fn right_held(
     Ok(Held { reads, verdict })
 }
 
+/// What is held of a block's last delivery, if there was one; `NotPossible` if the delivery isn't right.
+fn last_held(
+    alloc: Global,
+    store: &Store,
+    block: &Typed,
+    delivery: &Option<Delivery>,
+) -> Result<Option<Held>, AddError>
+    requires { Covers (plains store.now) block.now.uses }
+    ensures held { IfOk result (λ h. h ≡ option_map held_of delivery.now) }
+    ensures right { OnOk result
+        (IsRightDelivery store.now block.now (is_stale_delivery delivery.now) (option_map held_of delivery.now)) }
+    ensures refused { IsErrOf result AddError.NotPossible
+        → IsRightDelivery store.now block.now (is_stale_delivery delivery.now) (option_map held_of delivery.now) → ⊥ }
+{
+    match delivery {
+        None => Ok(None),
+        Some(delivery) => Ok(Some(right_held(alloc, store, block, delivery)?)),
+    }
+}
+
+/// Whether the delivery left its block stale, if there was one.
+fn is_left_stale(delivery: &Option<Delivery>) -> bool
+    ensures { result ≡ is_stale_delivery delivery.now }
+{
+    match delivery {
+        None => false,
+        Some(delivery) => delivery.is_stale(),
+    }
+}
+
 /// A block of a checkpoint with its last delivery, if there was one, its cause and its label; `NotPossible` if the delivery isn't right.
 pub(crate) fn last_delivery(
     alloc: Global,
@@ -184,26 +214,12 @@ pub(crate) fn last_delivery(
     ensures refused { IsErrOf result AddError.NotPossible
         → IsRightDelivery store.now block (is_stale_delivery delivery) (option_map held_of delivery) → ⊥ }
 {
-    match delivery {
-        None => Ok(CheckpointBlock {
-            ticket,
-            waiting: Waiting { block, held: None },
-            stale: false,
-            cause,
-            label,
-        }),
-        Some(delivery) => {
-            let held = right_held(alloc, store, block.block(), &delivery)?;
-            Ok(CheckpointBlock {
-                ticket,
-                waiting: Waiting {
-                    block,
-                    held: Some(held),
-                },
-                stale: delivery.is_stale(),
-                cause,
-                label,
-            })
-        }
-    }
+    let held = last_held(alloc, store, block.block(), &delivery)?;
+    Ok(CheckpointBlock {
+        ticket,
+        waiting: Waiting { block, held },
+        stale: is_left_stale(&delivery),
+        cause,
+        label,
+    })
 }
