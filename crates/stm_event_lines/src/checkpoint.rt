@@ -692,6 +692,28 @@ pub fn waiting_text(alloc: Global, waiting: &WaitingBlock) -> Result<String, NoM
     })
 }
 
+/// Whether the line is the waiting block's.
+fn is_line_of(alloc: Global, waiting: &WaitingBlock, line: &[u8]) -> Result<bool, NoMemory>
+    ensures { IfOk result (λ r. IsTrue r ↔ (waiting_line waiting.now.ticket waiting.now.block.text waiting.now.cause waiting.now.label
+        waiting.now.delivery ≡ line.now)) }
+{
+    let text = waiting_text(alloc, waiting)?;
+    Ok(text.as_bytes() == line)
+}
+
+/// The waiting block, if the line is its.
+fn if_line(alloc: Global, waiting: WaitingBlock, line: &[u8]) -> Result<WaitingBlock, LineError>
+    ensures ok { IfOk result (λ w. (w ≡ waiting) × (waiting_line w.ticket w.block.text w.cause w.label w.delivery ≡ line.now)) }
+    ensures bad { IsErrOf result LineError.Bad
+        → waiting_line waiting.ticket waiting.block.text waiting.cause waiting.label waiting.delivery ≢ line.now }
+{
+    if is_line_of(alloc, &waiting, line)? {
+        Ok(waiting)
+    } else {
+        Err(LineError::Bad)
+    }
+}
+
 /// The waiting block that the value represents, if the line is that block's.
 fn waiting_in(
     alloc: Global,
@@ -709,12 +731,7 @@ fn waiting_in(
     let Some(waiting) = waiting_of(alloc, known, json)? else {
         return Err(LineError::Bad);
     };
-    let again = waiting_text(alloc, &waiting)?;
-    if again.as_bytes() == line {
-        Ok(waiting)
-    } else {
-        Err(LineError::Bad)
-    }
+    if_line(alloc, waiting, line)
 }
 
 /// Reads the line of a waiting block, exactly where it is one whose text is a block over the names.
