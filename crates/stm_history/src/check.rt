@@ -286,6 +286,21 @@ fn take_first_line(
     }
 }
 
+/// Takes a line before those of the events, and puts the stage that it leads to in the place of this one. A fault leaves some stage.
+fn go_on(alloc: Global, seed: Seed, stage: &mut Stage, line: &[u8]) -> Result<(), HistoryFault>
+    requires stage { (p : CheckerState) × IsStage stage.old p × CountsWithinLimits p }
+    requires before { IsRunning stage.old → ⊥ }
+    ensures leads { OnOk result ((p : CheckerState) → IsStage stage.old p
+        → LeadsToStage p line.now stage.new) }
+    ensures refused { IfErr result (λ e. (p : CheckerState) → IsStage stage.old p
+        → MayRefuse p line.now e) }
+    ensures keeps { OnOk result (keeps stage.new ≡ keeps stage.old) }
+{
+    let first = mem::replace(stage, Stage::Before { keep: false });
+    *stage = take_first_line(alloc, seed, first, line)?;
+    Ok(())
+}
+
 /// Takes a whole line. A fault leaves some stage.
 fn take_line(alloc: Global, seed: Seed, stage: &mut Stage, line: &[u8]) -> Result<(), HistoryFault>
     requires { (p : CheckerState) × IsStage stage.old p × CountsWithinLimits p }
@@ -305,14 +320,7 @@ fn take_line(alloc: Global, seed: Seed, stage: &mut Stage, line: &[u8]) -> Resul
     {
         return take_event_line(alloc, *format, table, checkpoint, replayer, line);
     }
-    let first = mem::replace(stage, Stage::Before { keep: false });
-    match take_first_line(alloc, seed, first, line) {
-        Ok(next) => {
-            *stage = next;
-            Ok(())
-        }
-        Err(fault) => Err(fault),
-    }
+    go_on(alloc, seed, stage, line)
 }
 
 /// The fault at a line that can't be one of this place.
