@@ -1,5 +1,5 @@
 -- What delivering the answers of jobs does, one after another.
-use Rattle.std.proofs.Common.{◌≡◌, ℕ, suc, ◌+◌, ◌<◌, ◌≤◌, true, false, List, [], ◌∷◌, ◌++◌, Option, Some, None, Result, map, length, get_or, refl, sym, ap, ◌∙◌, append_assoc, append-nil, arith}
+use Rattle.std.proofs.Common.{◌≡◌, ℕ, suc, ◌+◌, ◌<◌, ◌≤◌, true, false, List, [], ◌∷◌, ◌++◌, Option, Some, None, Result, Ok, Err, IfOk, map, length, get_or, refl, sym, ap, ◌∙◌, append_assoc, append-nil, arith}
 use Rattle.std.proofs.lemmas.List.{map-append, length-append}
 use Rattle.std.specs.Option.{is_some}
 use Rattle.std.specs.declared.alloc.AllocError.{AllocError}
@@ -12,13 +12,13 @@ use Rattle.stm_events.specs.declared.errors.DeliverError.{DeliverError}
 use Rattle.stm_eval.specs.CoveredJobs.{AreJobsCovered}
 use Rattle.stm_jobs.specs.Answers.{IsMessageOf, AnswersJob}
 use Rattle.stm_desk.specs.Refusals.{requeued_if_overtaken}
-use Rattle.stm_desk.specs.DeskView.{DeskView}
+use Rattle.stm_desk.specs.DeskView.{DeskView, state_of}
 use Rattle.stm_commands.specs.Evaluation.{DeliveredSoFar, delivered_by, delivered_next, delivered_all}
 use Rattle.stm_commands.specs.Jobs.{handed_back, delivery_refusal}
 use Rattle.stm_commands.specs.OpenDesk.{HandedOut}
-use Rattle.stm_commands.specs.OpenInvariant.{handed_out, JobStands, JobsStand, HasGrown, after_message, IsRefusedFor, AnswerJobs}
+use Rattle.stm_commands.specs.OpenInvariant.{handed_out, JobStands, JobsStand, HasGrown, OwnsTicket, OwnTheirTickets, after_message, IsRefusedFor, AnswerJobs}
 use Rattle.stm_commands.proofs.Deliveries.{reason_of_job, refused_of_job}
-use Rattle.stm_commands.proofs.Growing.{stand_grown}
+use Rattle.stm_commands.proofs.Growing.{stand_grown, own_grown}
 
 abbrev pub Answer : Type 0
 Answer = Result Evaluated (Job × AllocError)
@@ -50,6 +50,31 @@ next_refused d mid e cells j m n t None (Some x) f g s i w p q o =
     ap (λ (y : DeskView). record { desk = y; count = n; stop = Some x })
     (o ∙ ap (λ (y : DeskView). handed_back y t) p ∙ ap (λ (u : ℕ). handed_back (requeued_if_overtaken x (message_ticket m) d) u) (q ∙ i.ticket) ∙ ap (λ (u : ℕ). handed_back (requeued_if_overtaken x u d) j.ticket) i.ticket)
     ∙ ap (delivered_by (record { desk = d; count = n; stop = None }) (handed_out cells j)) (reason d cells j m (Some x) s i w)
+
+-- ---- messages whose tickets were given to their blocks
+-- a job's message
+pub own_message : (d : DeskView) (cells : List (Ty × Value)) (j : Job) (m : Evaluated) → JobStands d (handed_out cells j) → IsMessageOf j cells m → OwnsTicket (state_of d) m
+own_message d cells j m s i = rw (i.ticket, i.block) s.ticket
+
+own_answer : (d : DeskView) (cells : List (Ty × Value)) (j : Job) (a : Answer) → JobStands d (handed_out cells j) → AnswersJob j cells a → IfOk a (OwnsTicket (state_of d))
+own_answer d cells j (Ok m) s i = own_message d cells j m s i
+own_answer d cells j (Err e) s i = tt
+
+-- each of the answers to jobs
+pub own_answers : (d : DeskView) (cells : List (Ty × Value)) (jobs : List Job) (answers : List Answer) → JobsStand d (map (handed_out cells) jobs) → AnswerJobs jobs cells answers
+    → OwnTheirTickets (state_of d) answers
+own_answers d cells [] [] s h = tt
+own_answers d cells [] (a ∷ rest) s h = absurd h
+own_answers d cells (j ∷ js) [] s h = absurd h
+own_answers d cells (j ∷ js) (a ∷ rest) s h = (own_answer d cells j a s.0 h.0, own_answers d cells js rest s.1 h.1)
+
+own_answer_grown : (d e : DeskView) (a : Answer) → HasGrown d e → IfOk a (OwnsTicket (state_of d)) → IfOk a (OwnsTicket (state_of e))
+own_answer_grown d e (Ok m) g o = own_grown d e m g o
+own_answer_grown d e (Err x) g o = tt
+
+pub own_answers_grown : (d e : DeskView) (answers : List Answer) → HasGrown d e → OwnTheirTickets (state_of d) answers → OwnTheirTickets (state_of e) answers
+own_answers_grown d e [] g o = tt
+own_answers_grown d e (a ∷ rest) g o = (own_answer_grown d e a g o.0, own_answers_grown d e rest g o.1)
 
 -- ---- answers
 -- the answers that are left of some jobs, which are delivered to a desk yet

@@ -7,6 +7,8 @@ use Rattle.stm_store.specs.Cells.{plains}
 use Rattle.stm_store.specs.Naming.{Named}
 use Rattle.stm_check.specs.TypedBlock.{Block}
 use Rattle.stm_eval.specs.declared.job.Job.{Job}
+use Rattle.stm_eval.specs.declared.message.Evaluated.{Evaluated}
+use Rattle.stm_eval.specs.EvaluatedFields.{message_ticket, message_block}
 use Rattle.stm_events.specs.declared.errors.CancelError.{CancelError}
 use Rattle.stm_events.specs.declared.errors.FinishError.{FinishError}
 use Rattle.stm_events.specs.declared.errors.LabelError.{LabelError}
@@ -40,7 +42,7 @@ use Rattle.stm_commands.specs.Jobs.{job_of, jobs_of}
 use Rattle.stm_commands.specs.OpenDesk.{HandedOut}
 use Rattle.stm_source.specs.LaterNames.{NamesFollow}
 use Rattle.stm_source.proofs.LaterNames.{same_names}
-use Rattle.stm_commands.specs.OpenInvariant.{handed_out, job_kept, HaveStores, JobStands, JobsStand, IsPresentCopy, OpenInvariant, HasGrown}
+use Rattle.stm_commands.specs.OpenInvariant.{handed_out, job_kept, HaveStores, JobStands, JobsStand, IsPresentCopy, OpenInvariant, HasGrown, OwnsTicket}
 use Rattle.stm_commands.proofs.KeptStores.{stores_grown}
 use Rattle.stm_commands.proofs.LegalDesks.{grown_state, grown_legal, grown_possible, names_grown}
 
@@ -85,6 +87,10 @@ stands_grown d e j g s = record {
   covered = s.covered;
   ticket = subst (λ (x : Slow). IsTicketOf j.block x j.ticket) (sym (grown_state d e g)) (ticket_from (state_of d) g.more j.block j.ticket (grown_possible d e g) (grown_legal d e g) s.ticket);
 }
+
+-- a ticket that was given to the block of a message still is
+pub own_grown : (d e : DeskView) (m : Evaluated) → HasGrown d e → OwnsTicket (state_of d) m → OwnsTicket (state_of e) m
+own_grown d e m g o = subst (λ (x : Slow). OwnsTicket x m) (sym (grown_state d e g)) (ticket_from (state_of d) g.more (message_block m) (message_ticket m) (grown_possible d e g) (grown_legal d e g) o)
 
 pub stand_grown : (d e : DeskView) (js : List HandedOut) → HasGrown d e → JobsStand d js → JobsStand e js
 stand_grown d e [] g s = tt

@@ -1,5 +1,5 @@
 -- What the type of an open desk keeps.
-use Rattle.std.specs.Prelude.{◌≡◌, ◌≢◌, List, [], ◌∷◌, ◌++◌, map, Option, Some, None, Result, Ok, Err, if◌then◌else◌}
+use Rattle.std.specs.Prelude.{◌≡◌, ◌≢◌, List, [], ◌∷◌, ◌++◌, map, Option, Some, None, Result, Ok, Err, IfOk, if◌then◌else◌}
 use Rattle.std.specs.declared.alloc.AllocError.{AllocError}
 use Rattle.stm_terms.specs.declared.kinds.Ty.{Ty}
 use Rattle.stm_terms.specs.declared.values.Value.{Value}
@@ -7,11 +7,11 @@ use Rattle.stm_store.specs.Cells.{Covers, plains}
 use Rattle.stm_store.specs.Naming.{Named}
 use Rattle.stm_eval.specs.declared.job.Job.{Job}
 use Rattle.stm_eval.specs.declared.message.Evaluated.{Evaluated}
-use Rattle.stm_eval.specs.EvaluatedFields.{message_ticket}
+use Rattle.stm_eval.specs.EvaluatedFields.{message_ticket, message_block}
 use Rattle.stm_events.specs.declared.errors.DeliverError.{DeliverError}
 use Rattle.stm_events.specs.declared.errors.DeliverError.TheVariants.{Gone, Already, NoMemory}
 use Rattle.stm_events.specs.declared.event.Event.{Event}
-use Rattle.stm_events.specs.SlowDesk.{Waiter, is_current, find_waiter}
+use Rattle.stm_events.specs.SlowDesk.{Slow, Waiter, is_current, find_waiter}
 use Rattle.stm_events.specs.States.{IsTicketOf, IsLegalFrom}
 use Rattle.stm_machine.specs.Checkpoints.{MayStart}
 use Rattle.stm_jobs.specs.Answers.{AnswersJob}
@@ -32,6 +32,15 @@ handed_out store j = record { ticket = j.ticket; block = j.block; store = store 
 pub record JobStands (d : DeskView) (j : HandedOut) : Type 0 where
   pub covered : Covers j.store j.block.uses
   pub ticket : IsTicketOf j.block (state_of d) j.ticket
+
+-- the ticket of a message was given to its block, as that of a job was
+abbrev pub OwnsTicket : Slow → Evaluated → Type 0
+OwnsTicket s m = IsTicketOf (message_block m) s (message_ticket m)
+
+-- so it is of each of these answers that is a message
+abbrev pub OwnTheirTickets : Slow → List (Result Evaluated (Job × AllocError)) → Type 0
+OwnTheirTickets s [] = Unit {0}
+OwnTheirTickets s (a ∷ rest) = IfOk a (OwnsTicket s) × OwnTheirTickets s rest
 
 -- each of the jobs does
 abbrev pub JobsStand : DeskView → List HandedOut → Type 0

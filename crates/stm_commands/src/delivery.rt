@@ -6,7 +6,7 @@ ghost use Rattle.stm_events.specs.States.{IsLegalFrom};
 ghost use Rattle.stm_machine.specs.Checkpoints.{MayStart};
 ghost use Rattle.stm_desk.specs.DeskView.{start_state, state_of};
 ghost use Rattle.stm_commands.specs.Jobs.{delivery_refusal, deliver_job_step};
-ghost use Rattle.stm_commands.specs.OpenInvariant.{refusal_unevaluated, handed_out, JobStands, HasGrown, after_message, IsRefusedFor};
+ghost use Rattle.stm_commands.specs.OpenInvariant.{refusal_unevaluated, handed_out, JobStands, HasGrown, OwnsTicket, after_message, IsRefusedFor};
 
 use std::alloc::{AllocError, Global};
 use stm_desk::{DeliverError, Desk, Status};
@@ -39,17 +39,18 @@ fn reported(refusal: DeliverError) -> Result<Option<DeliverError>, NoMemory>
     }
 }
 
-/// Delivers a message. The answer is why it is refused, if it is.
+/// Delivers a message of a job. The answer is why it is refused, if it is.
 pub fn deliver_message(
     desk: &mut Desk,
     message: Evaluated,
 ) -> Result<Option<DeliverError>, NoMemory>
+    requires own { OwnsTicket (state_of desk.old) message }
     ensures refused { IfOk result (λ r. IsRefusedFor desk.old message r) }
     ensures done { IfOk result (λ r. desk.new ≡ after_message desk.old message r) }
     ensures grown { HasGrown desk.old desk.new }
     ensures store { (state_of desk.new).store ≡ (state_of desk.old).store }
 {
-    let answer = desk.deliver(0, message);
+    let answer = desk.deliver_own(0, message);
     // The history is known to be legal by this.
     let _events = desk.history();
     match answer {

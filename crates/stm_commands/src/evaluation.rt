@@ -12,7 +12,7 @@ ghost use Rattle.stm_machine.specs.Checkpoints.{MayStart};
 ghost use Rattle.stm_desk.specs.DeskView.{start_state, state_of};
 ghost use Rattle.stm_options.specs.declared.options.TheConstants.Options.{MAX_WORKERS};
 ghost use Rattle.stm_commands.specs.Evaluation.{delivered_next, delivered_all, evaluated};
-ghost use Rattle.stm_commands.specs.OpenInvariant.{handed_out, JobStands, JobsStand, HasGrown, AnswerJobs, delivered_so_far, none_delivered};
+ghost use Rattle.stm_commands.specs.OpenInvariant.{handed_out, JobStands, JobsStand, HasGrown, OwnsTicket, OwnTheirTickets, AnswerJobs, delivered_so_far, none_delivered};
 
 use crate::delivery::deliver_message;
 use crate::threading::Threading;
@@ -35,6 +35,7 @@ pub struct Progress {
 /// Delivers the next message, unless one was refused before: then its ticket is queued again.
 fn deliver_next(desk: &mut Desk, message: Evaluated, so_far: Progress) -> Result<Progress, NoMemory>
     requires few { so_far.count < max_waiting }
+    requires own { OwnsTicket (state_of desk.old) message }
     requires start { MayStart desk.old.table desk.old.checkpoint }
     requires legal { IsLegalFrom (start_state desk.old) desk.old.history }
     ensures done { (cells : List (Ty × Value)) (job : Job) → IsMessageOf job cells message →
@@ -66,6 +67,7 @@ fn deliver_next(desk: &mut Desk, message: Evaluated, so_far: Progress) -> Result
 /// Delivers the next answer. A job that wasn't evaluated tells that memory ran out.
 fn deliver_answer(desk: &mut Desk, answer: Answer, so_far: Progress) -> Result<Progress, NoMemory>
     requires few { so_far.count < max_waiting }
+    requires own { IfOk answer (OwnsTicket (state_of desk.old)) }
     requires start { MayStart desk.old.table desk.old.checkpoint }
     requires legal { IsLegalFrom (start_state desk.old) desk.old.history }
     ensures done { (cells : List (Ty × Value)) (job : Job) → AnswersJob job cells answer →
@@ -89,6 +91,7 @@ fn deliver_answers(
     before: Progress,
 ) -> Result<Progress, NoMemory>
     requires few { before.count + vec_len answers ≤ max_waiting }
+    requires own { OwnTheirTickets (state_of desk.old) answers.items }
     requires start { MayStart desk.old.table desk.old.checkpoint }
     requires legal { IsLegalFrom (start_state desk.old) desk.old.history }
     ensures done { (cells : List (Ty × Value)) (jobs : List Job) →
@@ -106,9 +109,9 @@ fn deliver_answers(
     Ok(so_far)
 }
 
-/// How many bytes of text of the blocks are enough work for one thread: to evaluate them takes about 80 microseconds, and to start
+/// How many bytes of text of the blocks are enough work for one thread: to evaluate them takes about 90 microseconds, and to start
 /// a thread about 40.
-const BYTES_OF_A_THREAD: usize = 16_384;
+const BYTES_OF_A_THREAD: usize = 65_536;
 
 /// By how many threads jobs are evaluated: as many as there are workers, but no more than their blocks are worth.
 fn threads_for(threading: Threading, jobs: &[Job]) -> usize
@@ -152,9 +155,9 @@ fn evaluate_batch<T: Threads + Sync>(
     }
 }
 
-/// How many bytes of text of the blocks each worker evaluates before they are delivered: a delivery walks its block once more, and
-/// finds it in the processor's cache.
-const BYTES_OF_A_BATCH: usize = 65_536;
+/// How many bytes of text of the blocks each worker evaluates before they are delivered. Threads are started once for that many, and
+/// their messages are held until then.
+const BYTES_OF_A_BATCH: usize = 524_288;
 
 /// Evaluates jobs by threads on a store, and delivers their answers in the order of the jobs, batch by batch.
 fn evaluate_jobs<T: Threads + Sync>(

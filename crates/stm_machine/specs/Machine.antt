@@ -61,6 +61,11 @@ event client what = record { client = client; what = what }
 abbrev pub HasTicketLeft : Slow → Type 0
 HasTicketLeft s = s.next < 4294967295
 
+-- if a block waits under the ticket of the message, the message is of a block with its tree
+abbrev pub IsOfWaiter : Slow → Evaluated → Type 0
+IsOfWaiter s message =
+    (w : Waiter) → find_waiter (message_ticket message) s.waiters ≡ Some w → w.block.tree ≡ (message_block message).tree
+
 -- the message may be delivered: it is of the block that waits under its ticket, and nothing refuses it
 pub record MayDeliver (s : Slow) (message : Evaluated) : Type 0 where
   pub one : Waiter

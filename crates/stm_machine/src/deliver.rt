@@ -8,7 +8,7 @@ ghost use Rattle.stm_eval.specs.EvaluatedFields.{message_ticket, message_block, 
 ghost use Rattle.stm_events.specs.declared.event.What.{What as AnyWhat};
 ghost use Rattle.stm_events.specs.SlowDesk.{Slow, under};
 ghost use Rattle.stm_events.specs.Refusals.{differing, has_value, DeliveryRefusedAs};
-ghost use Rattle.stm_machine.specs.Machine.{IsAt, MayDeliver, MovesBy};
+ghost use Rattle.stm_machine.specs.Machine.{IsAt, IsOfWaiter, MayDeliver, MovesBy};
 
 use crate::machine::Machine;
 use std::alloc::Global;
@@ -102,14 +102,29 @@ impl Machine {
             (message_reads message.now) result }
         ensures allowed { OnOk result ((s : Slow) → IsAt self.now s → MayDeliver s message.now) }
     {
-        let ticket = message.ticket();
-        let waiting = match self.waiting.get(ticket) {
+        let waiting = match self.waiting.get(message.ticket()) {
             Some(waiting) => waiting,
             None => return Err(DeliverError::Gone),
         };
         if !is_of(waiting, message) {
             return Err(DeliverError::OtherBlock);
         }
+        self.may_deliver_own(message)
+    }
+
+    /// The same of a message that is of the block that waits under its ticket, if one does: its block is not compared.
+    pub fn may_deliver_own(&self, message: &Evaluated) -> Result<(), DeliverError>
+        requires own { (s : Slow) → IsAt self.now s → IsOfWaiter s message.now }
+        ensures refused { (s : Slow) → IsAt self.now s
+            → DeliveryRefusedAs s false (message_ticket message.now) (message_block message.now)
+            (message_reads message.now) result }
+        ensures allowed { OnOk result ((s : Slow) → IsAt self.now s → MayDeliver s message.now) }
+    {
+        let ticket = message.ticket();
+        let _waiting = match self.waiting.get(ticket) {
+            Some(waiting) => waiting,
+            None => return Err(DeliverError::Gone),
+        };
         if !self.pending.has(ticket) {
             return Err(DeliverError::Already);
         }

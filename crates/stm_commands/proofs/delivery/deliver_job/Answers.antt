@@ -12,3 +12,6 @@ returns-in-Ok-clause-done c =
     (reason_if_ok c.args.desk.now c.args.store.now c.args.job c.in-Ok.message c.deliver_message.result c.requires.stands
     c.in-Ok.ensures.job.0 c.in-Ok.ensures.job.1 c.in-Ok.ensures.reads c.deliver_message.ensures.refused)
     c.deliver_message.ensures.done
+
+pub deliver_message-requires : goal.deliver_message-requires
+deliver_message-requires c = record { own = rw (c.in-Ok.ensures.job.0, c.in-Ok.ensures.job.1) c.requires.stands.ticket }

@@ -1,73 +1,36 @@
-use Rattle.std.proofs.Common.{◌≡◌, ◌≢◌, ◌∙◌, true, false, Some, None, refl, sym, ap, subst}
+use Rattle.std.proofs.Common.{◌≡◌, ◌≢◌, ◌∙◌, Some, None, sym, ap, subst}
 use Rattle.std.specs.Option.{option_copied}
 use Rattle.stm_eval.specs.EvaluatedFields.{message_ticket, message_block, message_reads}
-use Rattle.stm_events.specs.SlowDesk.{under, is_current}
-use Rattle.stm_events.specs.Refusals.{differing}
+use Rattle.stm_events.specs.SlowDesk.{Waiter}
 use Rattle.stm_waiting.specs.Entries.{kept_at}
 use Rattle.stm_machine.specs.Machine.{Parts, IsAt}
 use Rattle.stm_machine.proofs.Calls.{waits, lost}
-use Rattle.stm_machine.proofs.Delivery.{refused_gone, refused_other, refused_same, first_already, first_overtaken, first_none, not_current, current}
+use Rattle.stm_machine.proofs.Delivery.{refused_gone, refused_other}
 use Rattle.stm_machine.proofs.machine.Machine.may_deliver.Goals as goal
 
 pub returns-in-None-clause-refused : goal.returns-in-None-clause-refused
 returns-in-None-clause-refused c = λ s h.
     let k = subst (λ (m : Parts). IsAt m s) (sym c.self.view_is) h in
     let m = c.args.message.now in
-    let e : kept_at (message_ticket m) c.self.inside.waiting ≡ None = rw (← c.ticket-ticket.ensures) (sym c.get.ensures ∙ ap option_copied c.in-None.is) in
+    let e : kept_at (message_ticket m) c.self.inside.waiting ≡ None = rw (← c.ticket.ensures) (sym c.get.ensures ∙ ap option_copied c.in-None.is) in
     refused_gone _ _ _ (message_block m) (message_reads m) (lost (message_ticket m) c.self.inside.waiting _ k.stands.entries_are e)
 
 pub returns-then-not-is_of-clause-refused : goal.returns-then-not-is_of-clause-refused
 returns-then-not-is_of-clause-refused c = λ s h.
     let k = subst (λ (m : Parts). IsAt m s) (sym c.self.view_is) h in
     let m = c.args.message.now in
-    let e : kept_at (message_ticket m) c.self.inside.waiting ≡ Some c.in-Some.waiting.now = rw (← c.ticket-ticket.ensures) (sym c.get.ensures ∙ ap option_copied c.in-Some.is) in
+    let e : kept_at (message_ticket m) c.self.inside.waiting ≡ Some c.in-Some.waiting.now = rw (← c.ticket.ensures) (sym c.get.ensures ∙ ap option_copied c.in-Some.is) in
     let p = waits (message_ticket m) _ c.self.inside.waiting _ k.stands.entries_are e in
     let n : p.one.block.tree ≢ (message_block m).tree = λ s. let t = c.is_of.ensures.1 (ap (λ b. b.tree) p.same.block ∙ s) in cc (t, c.if-not-is_of.true) in
     refused_other _ _ _ p.one (message_block m) (message_reads m) p.found n
 
-pub returns-then-not-has-clause-refused : goal.returns-then-not-has-clause-refused
-returns-then-not-has-clause-refused c = λ s h.
-    let k = subst (λ (m : Parts). IsAt m s) (sym c.self.view_is) h in
-    let m = c.args.message.now in
-    let e : kept_at (message_ticket m) c.self.inside.waiting ≡ Some c.in-Some.waiting.now = rw (← c.ticket-ticket.ensures) (sym c.get.ensures ∙ ap option_copied c.in-Some.is) in
-    let p = waits (message_ticket m) _ c.self.inside.waiting _ k.stands.entries_are e in
-    let same : p.one.block.tree ≡ (message_block m).tree = ap (λ b. b.tree) (sym p.same.block) ∙ c.is_of.ensures.0 (cc c.if-not-is_of.false) in
-    let g = c.has.ensures ∙ rw c.ticket-ticket.ensures (k.stands.queue (message_ticket m)) in
-    let q : is_current p.one ≡ true = current _ p.one c.has.result p.found g (cc c.if-not-has.true) in
-    refused_same _ _ p.one (message_block m) (message_reads m) _ _ p.found same (first_already _ p.one (message_reads m) q) refl
-
-pub returns-in-Some-first_read_differing-clause-refused : goal.returns-in-Some-first_read_differing-clause-refused
-returns-in-Some-first_read_differing-clause-refused c = λ s h.
-    let k = subst (λ (m : Parts). IsAt m s) (sym c.self.view_is) h in
-    let m = c.args.message.now in
-    let e : kept_at (message_ticket m) c.self.inside.waiting ≡ Some c.in-Some.waiting.now = rw (← c.ticket-ticket.ensures) (sym c.get.ensures ∙ ap option_copied c.in-Some.is) in
-    let p = waits (message_ticket m) _ c.self.inside.waiting _ k.stands.entries_are e in
-    let same : p.one.block.tree ≡ (message_block m).tree = ap (λ b. b.tree) (sym p.same.block) ∙ c.is_of.ensures.0 (cc c.if-not-is_of.false) in
-    let g = c.has.ensures ∙ rw c.ticket-ticket.ensures (k.stands.queue (message_ticket m)) in
-    let q : is_current p.one ≡ false = not_current _ p.one c.has.result p.found g (cc c.if-not-has.false) in
-    let f : differing (under s.store) (message_reads m) ≡ Some c.in-Some-first_read_differing.id = rw (← k.stands.store_is) (sym c.first_read_differing.ensures ∙ c.in-Some-first_read_differing.is) in
-    refused_same _ _ p.one (message_block m) (message_reads m) _ _ p.found same (first_overtaken _ p.one (message_reads m) _ q f) refl
-
-pub returns-in-None-first_read_differing-clause-refused : goal.returns-in-None-first_read_differing-clause-refused
-returns-in-None-first_read_differing-clause-refused c = λ s h.
-    let k = subst (λ (m : Parts). IsAt m s) (sym c.self.view_is) h in
-    let m = c.args.message.now in
-    let e : kept_at (message_ticket m) c.self.inside.waiting ≡ Some c.in-Some.waiting.now = rw (← c.ticket-ticket.ensures) (sym c.get.ensures ∙ ap option_copied c.in-Some.is) in
-    let p = waits (message_ticket m) _ c.self.inside.waiting _ k.stands.entries_are e in
-    let same : p.one.block.tree ≡ (message_block m).tree = ap (λ b. b.tree) (sym p.same.block) ∙ c.is_of.ensures.0 (cc c.if-not-is_of.false) in
-    let g = c.has.ensures ∙ rw c.ticket-ticket.ensures (k.stands.queue (message_ticket m)) in
-    let q : is_current p.one ≡ false = not_current _ p.one c.has.result p.found g (cc c.if-not-has.false) in
-    let f : differing (under s.store) (message_reads m) ≡ None = rw (← k.stands.store_is) (sym c.first_read_differing.ensures ∙ c.in-None-first_read_differing.is) in
-    refused_same _ _ p.one (message_block m) (message_reads m) _ _ p.found same (first_none _ p.one (message_reads m) q f) tt
-
-pub returns-in-None-first_read_differing-clause-allowed : goal.returns-in-None-first_read_differing-clause-allowed
-returns-in-None-first_read_differing-clause-allowed c = λ s h.
-    let k = subst (λ (m : Parts). IsAt m s) (sym c.self.view_is) h in
-    let m = c.args.message.now in
-    let e : kept_at (message_ticket m) c.self.inside.waiting ≡ Some c.in-Some.waiting.now = rw (← c.ticket-ticket.ensures) (sym c.get.ensures ∙ ap option_copied c.in-Some.is) in
-    let p = waits (message_ticket m) _ c.self.inside.waiting _ k.stands.entries_are e in
-    let same : p.one.block.tree ≡ (message_block m).tree = ap (λ b. b.tree) (sym p.same.block) ∙ c.is_of.ensures.0 (cc c.if-not-is_of.false) in
-    let g = c.has.ensures ∙ rw c.ticket-ticket.ensures (k.stands.queue (message_ticket m)) in
-    let q : is_current p.one ≡ false = not_current _ p.one c.has.result p.found g (cc c.if-not-has.false) in
-    let f : differing (under s.store) (message_reads m) ≡ None = rw (← k.stands.store_is) (sym c.first_read_differing.ensures ∙ c.in-None-first_read_differing.is) in
-    record { one = p.one; found = p.found; same = same; allowed = first_none _ p.one (message_reads m) q f }
+pub may_deliver_own-requires : goal.may_deliver_own-requires
+may_deliver_own-requires c = record {
+  own = λ s h w found.
+      let k = subst (λ (m : Parts). IsAt m s) (sym c.self.view_is) h in
+      let m = c.args.message.now in
+      let e : kept_at (message_ticket m) c.self.inside.waiting ≡ Some c.in-Some.waiting.now = rw (← c.ticket.ensures) (sym c.get.ensures ∙ ap option_copied c.in-Some.is) in
+      let p = waits (message_ticket m) _ c.self.inside.waiting _ k.stands.entries_are e in
+      let one : p.one ≡ w = cc (p.found, found) in
+      ap (λ (x : Waiter). x.block.tree) (sym one) ∙ ap (λ b. b.tree) (sym p.same.block) ∙ c.is_of.ensures.0 (cc c.if-not-is_of.false);
+}
