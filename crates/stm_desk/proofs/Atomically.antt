@@ -1,21 +1,19 @@
--- Running a block atomically: why it is refused, and that it keeps the desk what its history makes.
-use Rattle.std.proofs.Common.{◌≡◌, ℕ, ◌+◌, ◌<◌, ◌≤◌, Bool, true, false, cond, List, [], ◌∷◌, ◌++◌, map, length, Option, Some, None, refl, sym, ap, subst, ◌∙◌, arith, length-append, append_assoc}
-use Rattle.std.specs.Prelude.{nat_le, nat_lt, Result, Ok, Err, IfErr}
+-- Running a block atomically keeps the desk what its history makes.
+use Rattle.std.proofs.Common.{◌≡◌, ℕ, ◌+◌, ◌<◌, ◌≤◌, true, false, List, [], ◌∷◌, ◌++◌, map, length, Option, Some, refl, sym, ap, subst, ◌∙◌, arith, length-append, append_assoc}
+use Rattle.std.specs.Prelude.{nat_le, nat_lt}
 use Rattle.std.proofs.lemmas.Bool.Decides.{nat_tests}
-use Rattle.stm_terms.specs.UnlessNoMemory.{RefusedAs}
 use Rattle.stm_terms.specs.declared.verdicts.Verdict.{Verdict}
 use Rattle.stm_terms.specs.declared.verdicts.Verdict.TheVariants.{Commits, Throws, Blocks}
+use Rattle.stm_store.specs.Cells.{plains, Fits}
 use Rattle.stm_store.specs.Tables.{Declared}
 use Rattle.stm_check.specs.TypedBlock.{Block}
 use Rattle.stm_queue.specs.Queue.{Entry, has_ticket}
 use Rattle.stm_queue.proofs.Merging.{removed_with}
-use Rattle.stm_events.specs.declared.errors.SubmitError.{SubmitError}
-use Rattle.stm_events.specs.declared.errors.SubmitError.TheVariants as submit
 use Rattle.stm_events.specs.declared.event.Event.{Event}
 use Rattle.stm_events.specs.declared.event.What.{What}
 use Rattle.stm_events.specs.declared.event.What.TheVariants.{Submitted, Installed, Finished}
 use Rattle.stm_events.specs.Laws.{SubmittedAreWellTyped}
-use Rattle.stm_events.specs.Refusals.{submit_first, blocks_there}
+use Rattle.stm_events.specs.Refusals.{overflows}
 use Rattle.stm_events.specs.SlowAtomically.{atomically, AllowsEach}
 use Rattle.stm_events.specs.SlowDesk.{Slow, verdict_on, is_blocks, after, state_from, LegalFrom}
 use Rattle.stm_terms.specs.Limits.{max_clients}
@@ -23,80 +21,14 @@ use Rattle.stm_events.specs.SlowDrain.{after_all}
 use Rattle.stm_events.proofs.Folds.{state-append}
 use Rattle.stm_events.proofs.TypedStores.{submitted-append}
 use Rattle.stm_events.proofs.Atomically.{whats_waiting, whats_ending}
-use Rattle.stm_machine.specs.Atomic.{IsRunPlan}
+use Rattle.stm_machine.specs.Atomic.{IsRunPlan, PlansRun}
 use Rattle.stm_machine.proofs.Calls.{next_absent}
 use Rattle.stm_machine.specs.Checkpoints.{CheckpointView, start_of}
 use Rattle.stm_machine.specs.Machine.{Parts, IsAt, event}
 use Rattle.stm_machine.specs.QueueAndIndex.{with_tickets}
-use Rattle.stm_desk.specs.declared.errors.AtomicError.TheVariants as atomic
 use Rattle.stm_desk.specs.DeskView.{DeskView, state_of}
 use Rattle.stm_desk.specs.Kept.{DeskInvariant}
-use Rattle.stm_desk.specs.Refusals.{atomic_first, events_needed}
 use Rattle.stm_desk.specs.Settling.{with_whats}
-
--- ---- what refuses it before it is evaluated
--- by what the machine says, which knows no limit of events
-pub first_allows : (m : Option ℕ) (many : Bool) (r : Result (Unit {0}) SubmitError) → RefusedAs submit.NoMemory (submit_first m many false) r → r ≡ Ok tt → submit_first m many false ≡ None
-first_allows (Some i) many r h e = cc
-first_allows None true r h e = cc
-first_allows None false r h e = refl
-
-pub first_foreign : (m : Option ℕ) (many full crowded : Bool) (i : ℕ) (r : Result (Unit {0}) SubmitError) → RefusedAs submit.NoMemory (submit_first m many false) r → r ≡ Err (submit.Foreign i) → atomic_first m many full crowded ≡ Some (atomic.Foreign i)
-first_foreign (Some j) many full crowded i r h e = let q : j ≡ i = cc in ap (λ (k : ℕ). Some (atomic.Foreign k)) q
-first_foreign None true full crowded i r h e = cc
-first_foreign None false full crowded i r h e = absurd (not_foreign r h e)
-  where
-    not_foreign : (r : Result (Unit {0}) SubmitError) → IfErr r (λ x. x ≡ submit.NoMemory) → r ≡ Err (submit.Foreign i) → ⊥
-    not_foreign (Ok x) h e = cc
-    not_foreign (Err x) h e = cc
-
-pub first_many : (m : Option ℕ) (many full crowded : Bool) (r : Result (Unit {0}) SubmitError) → RefusedAs submit.NoMemory (submit_first m many false) r → r ≡ Err submit.WaitingFull → atomic_first m many full crowded ≡ Some atomic.WaitingFull
-first_many (Some j) many full crowded r h e = cc
-first_many None true full crowded r h e = refl
-first_many None false full crowded r h e = absurd (not_many r h e)
-  where
-    not_many : (r : Result (Unit {0}) SubmitError) → IfErr r (λ x. x ≡ submit.NoMemory) → r ≡ Err submit.WaitingFull → ⊥
-    not_many (Ok x) h e = cc
-    not_many (Err x) h e = cc
-
--- what the machine doesn't refuse, by its answer: it is accepted, or memory ran out
-abbrev pub Accepts : Result (Unit {0}) SubmitError → Type 0
-Accepts (Ok x) = Unit {0}
-Accepts (Err (submit.Foreign i)) = ⊥
-Accepts (Err submit.WaitingFull) = ⊥
-Accepts (Err submit.HistoryFull) = Unit {0}
-Accepts (Err submit.NoMemory) = Unit {0}
-
-pub none_first : (m : Option ℕ) (many : Bool) (r : Result (Unit {0}) SubmitError) → RefusedAs submit.NoMemory (submit_first m many false) r → Accepts r → submit_first m many false ≡ None
-none_first (Some i) many r h a = absurd (subst Accepts h a)
-none_first None true r h a = absurd (subst Accepts h a)
-none_first None false r h a = refl
-
-pub record NoneFirst (m : Option ℕ) (many : Bool) : Type 0 where
-  pub there : m ≡ None
-  pub few : many ≡ false
-
-pub nothing_first : (m : Option ℕ) (many : Bool) → submit_first m many false ≡ None → NoneFirst m many
-nothing_first (Some i) many e = cc
-nothing_first None true e = cc
-nothing_first None false e = record { there = refl; few = refl }
-
-pub then_full : (m : Option ℕ) (many full crowded : Bool) → submit_first m many false ≡ None → full ≡ true → atomic_first m many full crowded ≡ Some atomic.HistoryFull
-then_full m many full crowded e f = let n = nothing_first m many e in rw (n.there, n.few, f) refl
-
-pub then_crowded : (m : Option ℕ) (many full crowded : Bool) → submit_first m many false ≡ None → full ≡ false → crowded ≡ true → atomic_first m many full crowded ≡ Some atomic.CellsFull
-then_crowded m many full crowded e f g = let n = nothing_first m many e in rw (n.there, n.few, f, g) refl
-
-pub then_none : (m : Option ℕ) (many full crowded : Bool) → submit_first m many false ≡ None → full ≡ false → crowded ≡ false → atomic_first m many full crowded ≡ None
-then_none m many full crowded e f g = let n = nothing_first m many e in rw (n.there, n.few, f, g) refl
-
--- ---- how many events it has
-pub more_lacks : (limit n : ℕ) (v : Option Verdict) → nat_lt limit (n + 2) ≡ true → nat_lt limit (n + events_needed v) ≡ true
-more_lacks limit n v e = by (blocks_there v)
-  where
-    by : (b : Bool) → nat_lt limit (n + cond b 2 3) ≡ true
-    by true = e
-    by false = grind (arith, nat_tests)
 
 -- ---- the desk keeps what its history makes
 legal_whats : (s : Slow) (client : ℕ) (whats : List What) → client < max_clients → AllowsEach s whats → LegalFrom s (map (event client) whats)
@@ -145,17 +77,26 @@ pub has_room : (limit n k : ℕ) → nat_lt limit (n + k) ≡ false → n + k �
 has_room limit n k e = grind (arith, nat_tests)
 
 -- ---- what the call leaves
-next_free : (m : Parts) (s : Slow) → IsAt m s → has_ticket s.next m.pending ≡ false
-next_free m s k = subst (λ (t : ℕ). has_ticket t m.pending ≡ false) k.stands.next_is (next_absent m s k)
+next_free : (m : Parts) (s : Slow) (pending : List Entry) → IsAt m s → m.pending ≡ pending → has_ticket s.next pending ≡ false
+next_free m s pending k same =
+    subst (λ (ps : List Entry). has_ticket s.next ps ≡ false) same (subst (λ (t : ℕ). has_ticket t m.pending ≡ false) k.stands.next_is (next_absent m s k))
 
 pub waited : (d : DeskView) (m : Parts) (client : ℕ) (block : Block) (v : Verdict) → IsAt m (state_of d) → m.pending ≡ d.pending → verdict_on (state_of d).store block ≡ Some v → is_blocks v ≡ true
     → record d { history = (d.history ++ event client (Submitted (state_of d).next block) ∷ []) ++ event client (Installed (state_of d).next v) ∷ [] } ≡ with_whats d client (atomically (state_of d) block)
 waited d m client block v k same is blocks =
     let s = state_of d in
     let t = s.next in
-    let free : has_ticket t d.pending ≡ false = subst (λ (ps : List Entry). has_ticket t ps ≡ false) same (next_free m s k) in
+    let free = next_free m s d.pending k same in
     ap (λ (ps : List Entry). record d { history = (d.history ++ event client (Submitted t block) ∷ []) ++ event client (Installed t v) ∷ []; pending = ps }) (sym (removed_with t false d.pending free))
     ∙ ap (with_whats d client) (sym (whats_waiting s block v k.possible is blocks))
+
+-- what is planned at a desk's state, by what the desk shows of itself
+pub is_planned : (m : Parts) {d e : DeskView} {v w : Verdict} {n : ℕ} {stale : List ℕ} → IsAt m (state_of d) → d ≡ e → PlansRun m v n stale → w ≡ v → Fits (plains (state_of e).store) v → is_blocks v ≡ false → overflows (state_of e).store (Some v) ≡ false
+    → IsRunPlan (state_of d) w n stale
+is_planned m {d = d} {v = v} k e plans is fits ends room =
+    rw is (
+    plans (state_of d) k (subst (λ (x : DeskView). Fits (plains (state_of x).store) v) (sym e) fits) ends
+    (subst (λ (x : DeskView). overflows (state_of x).store (Some v) ≡ false) (sym e) room))
 
 pub ended_whats : (m : Parts) (s : Slow) (block : Block) (v : Verdict) (n : ℕ) (stale : List ℕ) → IsAt m s → verdict_on s.store block ≡ Some v → IsRunPlan s v n stale
     → atomically s block ≡ Submitted s.next block ∷ Installed s.next v ∷ Finished s.next v n stale ∷ []
@@ -168,7 +109,7 @@ pub ended : (d : DeskView) (m : Parts) (client : ℕ) (block : Block) (v : Verdi
 ended d m client block v n stale k same is p =
     let s = state_of d in
     let t = s.next in
-    let free : has_ticket t d.pending ≡ false = subst (λ (ps : List Entry). has_ticket t ps ≡ false) same (next_free m s k) in
+    let free = next_free m s d.pending k same in
     ap (λ (ps : List Entry). record d { history = ((d.history ++ event client (Submitted t block) ∷ []) ++ event client (Installed t v) ∷ []) ++ event client (Finished t v n stale) ∷ []; pending = with_tickets stale ps }) (sym (removed_with t false d.pending free))
     ∙ ap (with_whats d client) (sym (ended_whats m s block v n stale k is p))
 

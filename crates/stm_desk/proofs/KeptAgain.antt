@@ -130,11 +130,14 @@ pub changes_again : (reads : List (ℕ × Value)) (f : Variables) → Rising rea
 changes_again [] f r = refl
 changes_again (e ∷ rs) f r = again_step e.0 e.1 (f e.0) rs f r.0 (changes_again rs f r.1)
 
+first_differs : (reads : List (ℕ × Value)) (l : ℕ × Value) (ls : List (ℕ × Value)) → all_differ reads (l ∷ ls) ≡ true → (differs_from (find l.0 reads) l.1 ≡ true) × (all_differ reads ls ≡ true)
+first_differs reads l ls d = and_parts (differs_from (find l.0 reads) l.1) (all_differ reads ls) d
+
 -- what differs from one of the reads is of a variable among them
 differ_past : (r : ℕ × Value) (rs ls : List (ℕ × Value)) → AllAbove r.0 ls → all_differ (r ∷ rs) ls ≡ true → all_differ rs ls ≡ true
 differ_past r rs [] a d = refl
 differ_past r rs (l ∷ ls) a d =
-    let p = and_parts (differs_from (find l.0 (r ∷ rs)) l.1) (all_differ (r ∷ rs) ls) d in
+    let p = first_differs (r ∷ rs) l ls d in
     let here : differs_from (find l.0 rs) l.1 ≡ true = ap (λ (b : Bool). differs_from (cond b (Some r.1) (find l.0 rs)) l.1) (sym (other r.0 l.0 a.0)) ∙ p.0 in
     rw (here, differ_past r rs ls a.1 p.1) refl
 
@@ -160,7 +163,7 @@ left_by : (b : Bool) (r l : ℕ × Value) (rs ls : List (ℕ × Value)) → nat_
     → ((ms : List (ℕ × Value)) → Rising ms → all_differ rs ms ≡ true → lefts (changes_from rs (λ i. find i ms)) ≡ ms) → lefts (changes_from (r ∷ rs) (λ i. find i (l ∷ ls))) ≡ l ∷ ls
 left_by true r l rs ls e a rising d more =
     let same : r.0 ≡ l.0 = eqb-true r.0 l.0 e in
-    let p = and_parts (differs_from (find l.0 (r ∷ rs)) l.1) (all_differ (r ∷ rs) ls) d in
+    let p = first_differs (r ∷ rs) l ls d in
     let here : same_value r.1 l.1 ≡ false = differ_here r.1 l.1 (ap (λ (b : Bool). differs_from (cond b (Some r.1) (find l.0 rs)) l.1) (sym e) ∙ p.0) in
     let above : AllAbove r.0 ls = subst (λ (k : ℕ). AllAbove k ls) (sym same) rising.0 in
     ap (λ (b : Bool). lefts (change_to r.0 r.1 (cond b (Some l.1) (find r.0 ls)) ++ changes_from rs (λ i. find i (l ∷ ls)))) (ap (λ (k : ℕ). nat_eq k r.0) (sym same) ∙ itself r.0)
@@ -169,7 +172,7 @@ left_by true r l rs ls e a rising d more =
     ∙ ap (λ (ms : List (ℕ × Value)). (r.0, l.1) ∷ ms) (more ls rising.1 (differ_past r rs ls above p.1))
     ∙ ap (λ (k : ℕ). (k, l.1) ∷ ls) same
 left_by false r l rs ls e a rising d more =
-    let p = and_parts (differs_from (find l.0 (r ∷ rs)) l.1) (all_differ (r ∷ rs) ls) d in
+    let p = first_differs (r ∷ rs) l ls d in
     let here : differs_from (find l.0 rs) l.1 ≡ true = ap (λ (b : Bool). differs_from (cond b (Some r.1) (find l.0 rs)) l.1) (sym e) ∙ p.0 in
     let low : r.0 < l.0 = above_found r.0 l.0 l.1 rs a here in
     let above : AllAbove r.0 (l ∷ ls) = (low, above_more r.0 l.0 ls (omega arith) rising.0) in

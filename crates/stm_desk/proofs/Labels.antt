@@ -46,11 +46,14 @@ module _ (checkpoint : Option CheckpointView) (history : List Event) (held : Lab
   pub labels_stay : (client : ℕ) (what : What) → labels_after given what ≡ given → HasLabels checkpoint (history ++ event client what ∷ []) held
   labels_stay client what e = record { same = λ u. k.same u ∙ sym (ap (label_of u) e) ∙ after client what u; each = k.each }
 
+  each_left : (t : ℕ) (left : Labels) → AreSameLabels left (without_label t held) → AreLabels left
+  each_left t left is = each_same left (without_label t held) is (each_without t held k.each)
+
   -- one by which a block waits no more
   pub label_goes : (client : ℕ) (what : What) (t : ℕ) (left : Labels) → AreSameLabels left (without_label t held) → labels_after given what ≡ without_label t given → HasLabels checkpoint (history ++ event client what ∷ []) left
   label_goes client what t left is e = record {
     same = λ u. is u ∙ label-without t u held ∙ ap (λ (x : List ℕ). cond (nat_eq u t) [] x) (k.same u) ∙ sym (label-without t u given) ∙ sym (ap (label_of u) e) ∙ after client what u;
-    each = each_same left (without_label t held) is (each_without t held k.each);
+    each = each_left t left is;
   }
 
   -- one that gives a label
@@ -75,5 +78,5 @@ module _ (checkpoint : Option CheckpointView) (history : List Event) (held : Lab
       labels-append (first_labels checkpoint) history (event client a ∷ event client b ∷ event client c ∷ []) ∙ ap (λ (ls : Labels). labels_after (labels_after ls b) c) e ∙ ap (λ (ls : Labels). labels_after ls c) f ∙ g in
       record {
         same = λ u. is u ∙ label-without t u held ∙ ap (λ (x : List ℕ). cond (nat_eq u t) [] x) (k.same u) ∙ sym (label-without t u given) ∙ sym (ap (label_of u) three);
-        each = each_same left (without_label t held) is (each_without t held k.each);
+        each = each_left t left is;
       }

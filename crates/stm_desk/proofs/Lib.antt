@@ -28,4 +28,5 @@ pub mod StaleBefore
 pub mod Starts
 pub mod Turns
 pub mod Verdicts
+pub mod Views
 pub mod WorkOrders

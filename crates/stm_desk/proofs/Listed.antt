@@ -146,9 +146,12 @@ not_delivered : (d : Bool) (f : Waiter → Waiter) (o : Option Waiter) → d ≡
 not_delivered true f o e h = cc
 not_delivered false f o e h = h
 
+abbrev new_waiter : ℕ → Block → Waiter
+new_waiter t block = record { ticket = t; block = block; since = None }
+
 stays_stale : (t : ℕ) (s : Slow) (what : What) → IsPossible s → Allows s what → installs_to t what ≡ false → IsNotCurrent t s → IsNotCurrent t (after s what)
 stays_stale t s (Submitted u block) p a n k =
-    let v : Waiter = record { ticket = u; block = block; since = None } in
+    let v = new_waiter u block in
     subst NotCurrent (sym (waiter_push t s.next 0 v s.waiters a.0 p.rising)) (not_pushed (nat_eq t u) v (find_waiter t s.waiters) refl k)
 stays_stale t s (Installed u v) p a n k = subst NotCurrent (sym (waiter_delivered u t s.store s.waiters)) (not_delivered (nat_eq t u) _ (find_waiter t s.waiters) n k)
 stays_stale t s (Finished u v m stale) p a n k =
@@ -191,7 +194,7 @@ gone_gone false o h = h
 
 gone_after : (t : ℕ) (s : Slow) (what : What) → IsPossible s → Allows s what → IsGone t s → IsGone t (after s what)
 gone_after t s (Submitted u block) p a k =
-    let v : Waiter = record { ticket = u; block = block; since = None } in
+    let v = new_waiter u block in
     record {
       given = let g = k.given in omega arith;
       gone = waiter_push t s.next 0 v s.waiters a.0 p.rising ∙ gone_pushed (nat_eq t u) v (find_waiter t s.waiters) (other_ticket t u s.next k.given a.0) k.gone;
@@ -216,11 +219,14 @@ module _ (t : ℕ) (block : Block) (store_then : List Cell) (verdict : Verdict) 
   abbrev reads : List (ℕ × Value)
   reads = reads_of (under store_then) block.tree
 
+  abbrev waiter_with : ℕ → List ℕ → Waiter
+  waiter_with number woken = record { ticket = number; block = block; since = Some (record { store_then = store_then; woken = woken }) }
+
   -- it waits under the ticket, since its delivery on this store, and nothing made it stale
   pub record IsWaiting (s : Slow) : Type 0 where
     pub number : ℕ
     pub woken : List ℕ
-    pub found : find_waiter t s.waiters ≡ Some (record { ticket = number; block = block; since = Some (record { store_then = store_then; woken = woken }) })
+    pub found : find_waiter t s.waiters ≡ Some (waiter_with number woken)
     pub fresh : intersects woken (looked_on store_then block) ≡ false
 
   -- so what it read has its values
@@ -246,11 +252,23 @@ module _ (t : ℕ) (block : Block) (store_then : List Cell) (verdict : Verdict) 
       found_by j reads (find j reads) true (waking s.rule s.store v) refl ((looked block.tree (under store_then) verdict had j).0 m)
       (λ x there. not_woken s (Finished u v n stale) j x rule fits (found_read j x reads (under s.store) read there) (found_read j x reads (under (after s (Finished u v n stale)).store) now there)))
 
+  -- the list of a finish has it if it becomes stale
+  listed_if : (s : Slow) (u : ℕ) (v : Verdict) (n : ℕ) (stale : List ℕ) (k : IsWaiting s) → nat_eq t u ≡ false → IsPossible s → Allows s (Finished u v n stale)
+      → list_any (nat_eq t) stale ≡ becomes (waking s.rule s.store v) (Some (waiter_with k.number k.woken))
+  listed_if s u v n stale k e p a = finish_lists t u s v n stale p a ∙ ap (becomes (waking s.rule s.store v)) (ap (λ (x : Bool). cond x None (find_waiter t s.waiters)) e ∙ k.found)
+
+  -- after a finish of another block it waits still
+  still_there : (s : Slow) (u : ℕ) (v : Verdict) (n : ℕ) (stale : List ℕ) (k : IsWaiting s) → nat_eq t u ≡ false → IsPossible s
+      → find_waiter t (after s (Finished u v n stale)).waiters ≡ Some (after_writes (waking s.rule s.store v) (waiter_with k.number k.woken))
+  still_there s u v n stale k e p =
+      waiter_marks t (waking s.rule s.store v) (without_waiter u s.waiters)
+      ∙ ap (option_map (after_writes (waking s.rule s.store v))) (waiter_without u t s.next 0 s.waiters p.rising ∙ ap (λ (x : Bool). cond x None (find_waiter t s.waiters)) e ∙ k.found)
+
   finished_by : (d b : Bool) (s : Slow) (u : ℕ) (v : Verdict) (n : ℕ) (stale : List ℕ) (k : IsWaiting s) → nat_eq t u ≡ d → intersects (waking s.rule s.store v) (looked_on store_then block) ≡ b
       → IsPossible s → s.rule ≡ Changed → Allows s (Finished u v n stale) → FitsHere s (Finished u v n stale) → Turn s (Finished u v n stale)
   unfolding becomes
   finished_by true b s u v n stale k e z p rule a f =
-      let w : Waiter = record { ticket = k.number; block = block; since = Some (record { store_then = store_then; woken = k.woken }) } in
+      let w = waiter_with k.number k.woken in
       Ends (record {
         given = low t s.next 0 s.waiters w p.rising k.found;
         gone =
@@ -259,29 +277,23 @@ module _ (t : ℕ) (block : Block) (store_then : List Cell) (verdict : Verdict) 
       })
   finished_by false false s u v n stale k e z p rule a f =
       let woken = waking s.rule s.store v in
-      let w : Waiter = record { ticket = k.number; block = block; since = Some (record { store_then = store_then; woken = k.woken }) } in
-      let there : find_waiter t (after s (Finished u v n stale)).waiters ≡ Some (after_writes woken w) =
-      waiter_marks t woken (without_waiter u s.waiters) ∙ ap (option_map (after_writes woken)) (waiter_without u t s.next 0 s.waiters p.rising ∙ ap (λ (x : Bool). cond x None (find_waiter t s.waiters)) e ∙ k.found)
-      in
+      let w = waiter_with k.number k.woken in
+      let there = still_there s u v n stale k e p in
       let both : intersects (k.woken ++ woken) (looked_on store_then block) ≡ false = meets-append k.woken woken (looked_on store_then block) ∙ ap (λ (x : Bool). x || intersects woken (looked_on store_then block)) k.fresh ∙ z in
       let now : IsWaiting (after s (Finished u v n stale)) = record { number = k.number; woken = k.woken ++ woken; found = there; fresh = both } in
       let told = told_here reads s (Finished u v n stale) f (has_reads s p k) in
       Stays
       (sym told.0 ∙ unchanged reads (under (after s (Finished u v n stale)).store) (has_reads (after s (Finished u v n stale)) (possible_after s (Finished u v n stale) p a) now))
-      (finish_lists t u s v n stale p a ∙ ap (becomes woken) (ap (λ (x : Bool). cond x None (find_waiter t s.waiters)) e ∙ k.found)
-      ∙ (let g = k.fresh in rw (g, both) refl))
+      (listed_if s u v n stale k e p a ∙ (let g = k.fresh in rw (g, both) refl))
       now
   finished_by false true s u v n stale k e z p rule a f =
       let woken = waking s.rule s.store v in
-      let w : Waiter = record { ticket = k.number; block = block; since = Some (record { store_then = store_then; woken = k.woken }) } in
-      let there : find_waiter t (after s (Finished u v n stale)).waiters ≡ Some (after_writes woken w) =
-      waiter_marks t woken (without_waiter u s.waiters) ∙ ap (option_map (after_writes woken)) (waiter_without u t s.next 0 s.waiters p.rising ∙ ap (λ (x : Bool). cond x None (find_waiter t s.waiters)) e ∙ k.found)
-      in
+      let w = waiter_with k.number k.woken in
+      let there = still_there s u v n stale k e p in
       let both : intersects (k.woken ++ woken) (looked_on store_then block) ≡ true = meets-append k.woken woken (looked_on store_then block) ∙ ap (λ (x : Bool). x || intersects woken (looked_on store_then block)) k.fresh ∙ z in
       Turns
       (λ none. let quiet = unwoken_by s u v n stale rule f (has_reads s p k) none in cc)
-      (finish_lists t u s v n stale p a ∙ ap (becomes woken) (ap (λ (x : Bool). cond x None (find_waiter t s.waiters)) e ∙ k.found)
-      ∙ (let g = k.fresh in rw (g, both) refl))
+      (listed_if s u v n stale k e p a ∙ (let g = k.fresh in rw (g, both) refl))
       (λ x g. let q : after_writes woken w ≡ x = cc in subst (λ (y : Waiter). is_current y ≡ false) q (ap not both))
 
   stays_by : (s : Slow) (what : What) (k : IsWaiting s) → changes_told reads what ≡ [] → has_in_list t what ≡ false → find_waiter t (after s what).waiters ≡ find_waiter t s.waiters → Turn s what
@@ -289,14 +301,14 @@ module _ (t : ℕ) (block : Block) (store_then : List Cell) (verdict : Verdict) 
 
   cancelled_by : (d : Bool) (s : Slow) (u : ℕ) (k : IsWaiting s) → nat_eq t u ≡ d → IsPossible s → Turn s (Cancelled u)
   cancelled_by true s u k e p =
-      let w : Waiter = record { ticket = k.number; block = block; since = Some (record { store_then = store_then; woken = k.woken }) } in
+      let w = waiter_with k.number k.woken in
       Ends (record { given = low t s.next 0 s.waiters w p.rising k.found; gone = waiter_without u t s.next 0 s.waiters p.rising ∙ ap (λ (x : Bool). cond x None (find_waiter t s.waiters)) e })
   cancelled_by false s u k e p = stays_by s (Cancelled u) k refl refl (waiter_without u t s.next 0 s.waiters p.rising ∙ ap (λ (x : Bool). cond x None (find_waiter t s.waiters)) e)
 
   turn : (s : Slow) (what : What) → IsPossible s → s.rule ≡ Changed → Allows s what → FitsHere s what → installs_to t what ≡ false → IsWaiting s → Turn s what
   turn s (Submitted u b) p rule a f n k =
-      let w : Waiter = record { ticket = k.number; block = block; since = Some (record { store_then = store_then; woken = k.woken }) } in
-      let v : Waiter = record { ticket = u; block = b; since = None } in
+      let w = waiter_with k.number k.woken in
+      let v = new_waiter u b in
       stays_by s (Submitted u b) k refl refl
       (waiter_push t s.next 0 v s.waiters a.0 p.rising ∙ ap (λ (x : Bool). cond x (Some v) (find_waiter t s.waiters)) (other_ticket t u s.next (low t s.next 0 s.waiters w p.rising k.found) a.0))
   turn s (Installed u v) p rule a f n k = stays_by s (Installed u v) k refl refl (waiter_delivered u t s.store s.waiters ∙ ap (λ (x : Bool). cond x (option_map (with_delivery s.store) (find_waiter t s.waiters)) (find_waiter t s.waiters)) n)

@@ -60,6 +60,10 @@ unfolding reason_of
 stands_new d t e = stands_new_by d (find_waiter t (state_of d).waiters) e
 
 -- ---- a stale block
+-- what a block had read at its last delivery
+abbrev reads_at : Waiter → Since → List (ℕ × Value)
+reads_at w s = reads_of (under s.store_then) w.block.tree
+
 ticket_by : (b : Bool) (t : ℕ) (v w : Waiter) (o : Option Waiter) → nat_eq t v.ticket ≡ b → (o ≡ Some w → w.ticket ≡ t) → cond b (Some v) o ≡ Some w → w.ticket ≡ t
 ticket_by true t v w o e more f = let q : v ≡ w = cc in subst (λ (x : Waiter). x.ticket ≡ t) q (sym (eqb-true t v.ticket e))
 ticket_by false t v w o e more f = more f
@@ -85,13 +89,13 @@ pub told_by : (d : DeskView) (t : ℕ) (w : Waiter) (s : Since) → MayStart d.t
     ≡ stale_told (stale_at t d.checkpoint) (kept_cause_at t d.checkpoint) (reads_of (under s.store_then) w.block.tree) d.history (events_since t d.history)
 told_by d t w s start k (Here since) =
     let p = is_caused (start_state d) d.history t w s k since in
-    let reads = reads_of (under s.store_then) w.block.tree in
+    let reads = reads_at w s in
     let kept = kept_cause_at t d.checkpoint in
     reason_here (is_installed t d.history) (cause_since_delivery t reads (start_state d) d.history) (reason_before kept t reads (start_state d) d.history) p.installed
     ∙ ap (option_map IsStale) p.told ∙ ap (stale_told (stale_at t d.checkpoint) kept reads d.history) (sym p.since)
 told_by d t w s start k (Before since) =
     let p = is_caused_before (start_state d) d.history t w s k since in
-    let reads = reads_of (under s.store_then) w.block.tree in
+    let reads = reads_at w s in
     let kept = kept_cause_at t d.checkpoint in
     reason_else (is_installed t d.history) (option_map IsStale (cause_since_delivery t reads (start_state d) d.history)) (reason_before kept t reads (start_state d) d.history) p.installed
     ∙ before_by (was_stale (find_waiter t (start_state d).waiters)) (reason_kept reads kept) (first_cause reads (start_state d) d.history) (cause_told reads d.history) p.told
@@ -106,7 +110,7 @@ pub stale_whole : (d : DeskView) (t : ℕ) (w : Waiter) (s : Since) → MayStart
     → TracksFrom (start_state d) d.history t w.block s → reason_of d t ≡ stale_told (stale_at t d.checkpoint) (kept_cause_at t d.checkpoint) (reads_of (under s.store_then) w.block.tree) d.history (events_since t d.history)
 unfolding reason_of
 stale_whole d t w s start k f e stale tracks =
-    let looked = reads_of (under s.store_then) w.block.tree in
+    let looked = reads_at w s in
     ap (reason_of_waiter d) f ∙ ap (reason_since d w) e
     ∙ stale_reason_if (is_stale_since w.block s) (stale_reason (kept_cause_at w.ticket d.checkpoint) w.ticket looked (start_state d) d.history) (Some (current_reason (state_of d).store w)) stale
     ∙ ap (λ (u : ℕ). stale_reason (kept_cause_at u d.checkpoint) u looked (start_state d) d.history) (found_ticket t (state_of d).waiters w f)
@@ -167,11 +171,11 @@ has_told : (d : DeskView) (t : ℕ) (w : Waiter) (s : Since) → MayStart d.tabl
     → is_some (stale_told (stale_at t d.checkpoint) (kept_cause_at t d.checkpoint) (reads_of (under s.store_then) w.block.tree) d.history (events_since t d.history)) ≡ true
 has_told d t w s start k (Here since) stale =
     let p = is_caused (start_state d) d.history t w s k since in
-    let reads = reads_of (under s.store_then) w.block.tree in
+    let reads = reads_at w s in
     ap (λ (o : Option (List Event)). is_some (stale_told (stale_at t d.checkpoint) (kept_cause_at t d.checkpoint) reads d.history o)) p.since ∙ some_mapped (cause_told reads since.delivery.later) (p.caused stale)
 has_told d t w s start k (Before since) stale =
     let p = is_caused_before (start_state d) d.history t w s k since in
-    let reads = reads_of (under s.store_then) w.block.tree in
+    let reads = reads_at w s in
     let same = was_stale_at t d.table d.checkpoint start in
     ap (λ (o : Option (List Event)). is_some (stale_told (stale_at t d.checkpoint) (kept_cause_at t d.checkpoint) reads d.history o)) p.since
     ∙ has_before (stale_at t d.checkpoint) (reason_kept reads (kept_cause_at t d.checkpoint)) (cause_told reads d.history) (λ none. p.caused (same ∙ none) stale)
@@ -180,7 +184,7 @@ has_reason_since : (d : DeskView) (t : ℕ) (w : Waiter) (o : Option Since) → 
     → is_some (reason_since d w o) ≡ true
 has_reason_since d t w None start k f tracks = refl
 has_reason_since d t w (Some s) start k f tracks =
-    let reads = reads_of (under s.store_then) w.block.tree in
+    let reads = reads_at w s in
     reason_if (is_stale_since w.block s) (stale_reason (kept_cause_at w.ticket d.checkpoint) w.ticket reads (start_state d) d.history) (current_reason (state_of d).store w)
     (λ stale.
     ap (λ (u : ℕ). is_some (stale_reason (kept_cause_at u d.checkpoint) u reads (start_state d) d.history)) (found_ticket t (state_of d).waiters w f)

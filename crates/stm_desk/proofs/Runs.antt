@@ -39,16 +39,22 @@ with_length client d (x ∷ xs) = omega (arith, with_length client (with_event d
 count_more : (p : What → Bool) (xs ys : List What) → length (filter p (xs ++ ys)) ≡ length (filter p xs) + length (filter p ys)
 count_more p xs ys = rw filter-append (length-append (filter p xs) (filter p ys))
 
+one_more : (client : ℕ) (d : DeskView) (x : What) → state_from (start_state d) (d.history ++ event client x ∷ []) ≡ after (state_of d) x
+one_more client d x = state-push (start_state d) d.history (event client x)
+
+one_less : (client : ℕ) (d : DeskView) (x : What) → length d.history < d.limit → d.limit - length d.history ≡ suc (d.limit - length (d.history ++ event client x ∷ []))
+one_less client d x room = omega (arith, length-append d.history (event client x ∷ []))
+
 next_left : (next : Order) (client : ℕ) (d new : DeskView) (x : What) → next (state_of d) ≡ Some x → has_cells (state_of d) x ≡ true → length d.history < d.limit → new ≡ with_event d client x → x ∷ slow_run next new ≡ slow_run next d
 next_left next client d new x n h room e =
-    let p : state_from (start_state d) (d.history ++ event client x ∷ []) ≡ after (state_of d) x = state-push (start_state d) d.history (event client x) in
-    let left : d.limit - length d.history ≡ suc (d.limit - length (d.history ++ event client x ∷ [])) = omega (arith, length-append d.history (event client x ∷ [])) in
+    let p = one_more client d x in
+    let left = one_less client d x room in
     sym (rw e (running_more next _ _ (state_of d) x left n h ∙ ap (λ (s : Slow). x ∷ running next (d.limit - length (d.history ++ event client x ∷ [])) s) (sym p)))
 
 stop_left : (next : Order) (client : ℕ) (d new : DeskView) (x : What) → next (state_of d) ≡ Some x → has_cells (state_of d) x ≡ true → length d.history < d.limit → new ≡ with_event d client x → slow_run_stop next new ≡ slow_run_stop next d
 stop_left next client d new x n h room e =
-    let p : state_from (start_state d) (d.history ++ event client x ∷ []) ≡ after (state_of d) x = state-push (start_state d) d.history (event client x) in
-    let left : d.limit - length d.history ≡ suc (d.limit - length (d.history ++ event client x ∷ [])) = omega (arith, length-append d.history (event client x ∷ [])) in
+    let p = one_more client d x in
+    let left = one_less client d x room in
     rw e (ap (run_stop next (d.limit - length (d.history ++ event client x ∷ []))) p ∙ sym (stopping_more next _ _ (state_of d) x left n h))
 
 pub begun_one : (next : Order) (client f e : ℕ) (d new : DeskView) → IsNextEvent next client f e d new → HasBegun next client d new f e

@@ -20,6 +20,9 @@ pub sought_none : (m : Bool) (c : Option KeptCause) → IsSought m c None m c
 sought_none true c = record { missing = refl; cause = refl }
 sought_none false c = record { missing = refl; cause = refl }
 
+sought_same : (m is : Bool) (c has : Option KeptCause) → is ≡ m → has ≡ c → IsSought m c None is has
+sought_same m is c has e h = subst (λ (b : Bool). IsSought m c None b has) (sym e) (subst (λ (o : Option KeptCause). IsSought m c None m o) (sym h) (sought_none m c))
+
 -- nothing was missing
 sought_absent : (m : Bool) (c f : Option KeptCause) → m ≡ false → IsSought m c f m c
 sought_absent true c f e = cc
@@ -59,10 +62,8 @@ for_by true true t u missing m' had has k e r m h =
 for_by true false t u missing m' had has k e r m h =
     let same : missing t ≡ false = ap missing (eqb-true t u e) ∙ r in
     record { missing = m ∙ sym (ap (λ (b : Bool). b && false) same); cause = h ∙ sym (ap (λ (b : Bool). cause_sought b (Some (k t)) had) same) }
-for_by false true t u missing m' had has k e r m h =
-    subst (λ (b : Bool). IsSought (missing t) had None b has) (sym m) (subst (λ (o : Option KeptCause). IsSought (missing t) had None (missing t) o) (sym h) (sought_none (missing t) had))
-for_by false false t u missing m' had has k e r m h =
-    subst (λ (b : Bool). IsSought (missing t) had None b has) (sym m) (subst (λ (o : Option KeptCause). IsSought (missing t) had None (missing t) o) (sym h) (sought_none (missing t) had))
+for_by false true t u missing m' had has k e r m h = sought_same (missing t) m' had has m h
+for_by false false t u missing m' had has k e r m h = sought_same (missing t) m' had has m h
 
 -- a ticket that was missing has this cause
 pub sought_here : (t u : ℕ) (missing : ℕ → Bool) (m' : Bool) (had has : Option KeptCause) (k : ℕ → KeptCause) → missing u ≡ true → m' ≡ cond (nat_eq u t) false (missing t) → has ≡ cond (nat_eq u t) (Some (k u)) had
@@ -118,6 +119,9 @@ sought_all t reads es i was had m c none before =
     (sought_then was had (last_listed t reads (drop i es)) m c (last_listed t reads (take i es)) m c before (sought_absent m c (last_listed t reads (take i es)) none))
 
 -- ---- the blocks of a checkpoint
+dropped : (bs : List CheckpointBlock) (i : ℕ) (b : CheckpointBlock) → i < length bs → b ≡ get_or bs i b → drop i bs ≡ b ∷ drop (i + 1) bs
+dropped bs i b within item = drop_more bs i b within ∙ ap (λ (y : CheckpointBlock). y ∷ drop (i + 1) bs) (sym item)
+
 kept_by : (b m m' : Bool) (cause c c' rest : Option KeptCause) → m' ≡ cond b false m → c' ≡ cause_sought m (cond b cause None) c → cause_sought m' rest c' ≡ cause_sought m (cond b cause rest) c
 kept_by true m m' cause c c' rest e h = ap (λ (x : Bool). cause_sought x rest c') e ∙ h
 kept_by false true m' cause c c' rest e h = ap (λ (x : Bool). cause_sought x rest c') e ∙ ap (option_or rest) h
@@ -126,7 +130,7 @@ kept_by false false m' cause c c' rest e h = ap (λ (x : Bool). cause_sought x r
 pub kept_goes_on : (t : ℕ) (bs : List CheckpointBlock) (i : ℕ) (b : CheckpointBlock) (m m' : Bool) (c c' all : Option KeptCause) → i < length bs → b ≡ get_or bs i b → m' ≡ cond (nat_eq b.ticket t) false m → c' ≡ cause_sought m (cond (nat_eq b.ticket t) b.cause None) c
     → cause_sought m (kept_cause_in t (drop i bs)) c ≡ all → cause_sought m' (kept_cause_in t (drop (i + 1) bs)) c' ≡ all
 kept_goes_on t bs i b m m' c c' all within item e h on =
-    let split : drop i bs ≡ b ∷ drop (i + 1) bs = drop_more bs i b within ∙ ap (λ (y : CheckpointBlock). y ∷ drop (i + 1) bs) (sym item) in
+    let split = dropped bs i b within item in
     kept_by (nat_eq b.ticket t) m m' b.cause c c' (kept_cause_in t (drop (i + 1) bs)) e h
     ∙ ap (λ (x : Bool). cause_sought m (cond x b.cause (kept_cause_in t (drop (i + 1) bs))) c) (turned t b.ticket)
     ∙ ap (λ (xs : List CheckpointBlock). cause_sought m (kept_cause_in t xs) c) (sym split) ∙ on
@@ -141,6 +145,6 @@ joined false false rest = refl
 pub stale_goes_on : (t : ℕ) (bs : List CheckpointBlock) (i : ℕ) (b : CheckpointBlock) (old new all : Bool) → i < length bs → b ≡ get_or bs i b → new ≡ ((nat_eq b.ticket t && b.stale) || old) → (old || has_stale t (drop i bs)) ≡ all
     → (new || has_stale t (drop (i + 1) bs)) ≡ all
 stale_goes_on t bs i b old new all within item e on =
-    let split : drop i bs ≡ b ∷ drop (i + 1) bs = drop_more bs i b within ∙ ap (λ (y : CheckpointBlock). y ∷ drop (i + 1) bs) (sym item) in
+    let split = dropped bs i b within item in
     ap (λ (x : Bool). x || has_stale t (drop (i + 1) bs)) e ∙ joined (nat_eq b.ticket t && b.stale) old (has_stale t (drop (i + 1) bs))
     ∙ ap (λ (xs : List CheckpointBlock). old || has_stale t xs) (sym split) ∙ on

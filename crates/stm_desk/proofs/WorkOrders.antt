@@ -42,6 +42,9 @@ none_at p s h = by (lowest p s.waiters) h where
   by None e = refl
   by (Some w) e = cc
 
+found_there : (p : Waiter → Bool) (s : Slow) (t : ℕ) (w : Waiter) → IsPossible s → lowest p s.waiters ≡ Some w → w.ticket ≡ t → find_waiter t s.waiters ≡ Some w
+found_there p s t w k f e = subst (λ (u : ℕ). find_waiter u s.waiters ≡ Some w) e (lowest_found p s.next 0 s.waiters w k.rising f).found
+
 not_lower : (t u : ℕ) → t < u → nat_lt u t ≡ false
 not_lower t u l = grind (arith, nat_tests)
 
@@ -111,7 +114,7 @@ installs_rounds : (s : Slow) (t : ℕ) → IsPossible s → next_due s ≡ Some 
 installs_rounds s t p h =
     let f = found_at is_due s t h in
     let l = lowest_found is_due s.next 0 s.waiters f.one p.rising f.first in
-    let there : find_waiter t s.waiters ≡ Some f.one = subst (λ (u : ℕ). find_waiter u s.waiters ≡ Some f.one) f.ticket l.found in
+    let there = found_there is_due s t f.one p f.first f.ticket in
     record {
       due = ap due_of there ∙ l.holds;
       next = λ v q. subst (λ (u : ℕ). order_of Rounds s ≡ Some (Installed u v)) f.ticket (settle_installs s f.one v f.first (some_verdict s.store (find_waiter t s.waiters) f.one v there q));
@@ -134,8 +137,7 @@ due_found s t (Some w) f e = due_found_if s t w (is_due w) refl f e
 installs_lowest : (s : Slow) (t : ℕ) → IsPossible s → due_in Lowest s ≡ Some t → InstallsAt Lowest s t
 installs_lowest s t p h =
     let f = due_found s t (lowest (is_next s.store) s.waiters) refl h in
-    let l = lowest_found (is_next s.store) s.next 0 s.waiters f.one p.rising f.first in
-    let there : find_waiter t s.waiters ≡ Some f.one = subst (λ (u : ℕ). find_waiter u s.waiters ≡ Some f.one) f.ticket l.found in
+    let there = found_there (is_next s.store) s t f.one p f.first f.ticket in
     record {
       due = ap due_of there ∙ f.due;
       next = λ v q. subst (λ (u : ℕ). order_of Lowest s ≡ Some (Installed u v)) f.ticket (drain_installs s f.one v f.first f.due (some_verdict s.store (find_waiter t s.waiters) f.one v there q));
@@ -158,7 +160,7 @@ finishes_rounds s t p n h =
     let f = found_at (can_end s.store) s t h in
     let none = none_at is_due s n in
     let l = lowest_found (can_end s.store) s.next 0 s.waiters f.one p.rising f.first in
-    let there : find_waiter t s.waiters ≡ Some f.one = subst (λ (u : ℕ). find_waiter u s.waiters ≡ Some f.one) f.ticket l.found in
+    let there = found_there (can_end s.store) s t f.one p f.first f.ticket in
     record {
       ready = ready_by s.store (find_waiter t s.waiters) f.one there (lowest_none is_due s.waiters t f.one none there) l.holds;
       next = λ v q.
@@ -180,7 +182,7 @@ finishes_lowest s t p n h =
     let f = found_at (is_next s.store) s t h in
     let l = lowest_found (is_next s.store) s.next 0 s.waiters f.one p.rising f.first in
     let d = not_due_by s f.one (is_due f.one) refl f.first n in
-    let there : find_waiter t s.waiters ≡ Some f.one = subst (λ (u : ℕ). find_waiter u s.waiters ≡ Some f.one) f.ticket l.found in
+    let there = found_there (is_next s.store) s t f.one p f.first f.ticket in
     record {
       ready = ready_by s.store (find_waiter t s.waiters) f.one there d (right_of (is_due f.one) (can_end s.store f.one) d l.holds);
       next = λ v q.

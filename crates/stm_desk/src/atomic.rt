@@ -224,7 +224,7 @@ impl Desk {
         &mut self,
         client: u32,
         block: SharedBlock,
-        verdict: SharedVerdict,
+        verdict: Verdict,
         scratch: &Scratch,
         waits: bool,
     ) -> Result<Ran, NoMemory>
@@ -242,6 +242,7 @@ impl Desk {
             ≡ told_of (state_of self.old).store f.verdict)) }
         ensures unchanged { OnErr result (self.new ≡ self.old) }
     {
+        let verdict = SharedVerdict::new(*self.history.allocator(), verdict)?;
         if waits {
             let ticket = self.submit_current(client, block, verdict, scratch)?;
             Ok(Ran {
@@ -255,6 +256,30 @@ impl Desk {
                 finish: Some(finish),
             })
         }
+    }
+
+    /// Why a block whose verdict is known can't be run atomically.
+    fn may_end(
+        &self,
+        block: &SharedBlock,
+        verdict: &Verdict,
+        waits: bool,
+    ) -> Result<(), AtomicError>
+        requires allowed { submit_refused (state_of self.now) false block.now ≡ None }
+        requires verdict { verdict_on (state_of self.now).store block.now ≡ Some verdict.now }
+        requires waits { is_blocks verdict.now ≡ waits }
+        ensures room { OnOk result (lacks_room self.now (if waits then 2 else 3) ≡ false) }
+        ensures cells { OnOk result (overflows (state_of self.now).store (Some verdict.now) ≡ false) }
+        ensures allowed { OnOk result (atomic_refusal self.now block.now ≡ None) }
+        ensures refused { IfErr result (λ e. atomic_refusal self.now block.now ≡ Some e) }
+    {
+        if self.lacks_room(if waits { 2 } else { 3 }) {
+            return Err(AtomicError::HistoryFull);
+        }
+        if self.overflows(verdict) {
+            return Err(AtomicError::CellsFull);
+        }
+        Ok(())
     }
 
     /// A block whose verdict is known is run atomically.
@@ -281,14 +306,10 @@ impl Desk {
         ensures unchanged { OnErr result (self.new ≡ self.old) }
     {
         let waits = blocks(&verdict);
-        if self.lacks_room(if waits { 2 } else { 3 }) {
-            return Err(AtomicError::HistoryFull);
+        match self.may_end(&block, &verdict, waits) {
+            Ok(()) => Ok(self.run_allowed(client, block, verdict, scratch, waits)?),
+            Err(refusal) => Err(refusal),
         }
-        if self.overflows(&verdict) {
-            return Err(AtomicError::CellsFull);
-        }
-        let verdict = SharedVerdict::new(*self.history.allocator(), verdict)?;
-        Ok(self.run_allowed(client, block, verdict, scratch, waits)?)
     }
 
     /// Runs a block at once: it is submitted, evaluated on the present store, and finished if it doesn't block; if it does, it waits

@@ -5,16 +5,19 @@ ghost use Rattle.stm_terms.specs.UnlessNoMemory.{RefusedAs};
 ghost use Rattle.stm_store.specs.Cells.{applied_answer as told_of};
 ghost use Rattle.stm_terms.specs.Limits.{max_clients};
 ghost use Rattle.stm_events.specs.declared.event.What.TheVariants.{Finished};
-ghost use Rattle.stm_machine.specs.Machine.{event};
+ghost use Rattle.stm_events.specs.Labels.{AreSameLabels, without_label};
+ghost use Rattle.stm_events.specs.SlowDesk.{Slow};
+ghost use Rattle.stm_machine.specs.Machine.{event, IsAt, MovesBy};
 ghost use Rattle.stm_machine.specs.Plans.{IsPlan};
+ghost use Rattle.stm_machine.specs.QueueAndIndex.{with_tickets};
 ghost use Rattle.stm_desk.specs.DeskView.{state_of, is_full, with_event};
 ghost use Rattle.stm_desk.specs.Events.{finish_of};
 ghost use Rattle.stm_desk.specs.Limit.{limited_plan};
 ghost use Rattle.stm_desk.specs.Refusals.{finish_refusal};
 
 use crate::desk::Desk;
-use stm_events::{Event, FinishError, SharedVerdict, Tickets, What};
-use stm_machine::Plan;
+use stm_events::{Event, FinishError, LabelTable, SharedVerdict, Tickets, What};
+use stm_machine::{Machine, Plan};
 use stm_store::Applied;
 use stm_terms::NoMemory;
 
@@ -69,6 +72,35 @@ fn finished_event(
     })
 }
 
+/// A finish by its plan, on the parts of a desk: its event, for which there is room, joins the history.
+fn finish_parts(
+    machine: &mut Machine,
+    labels: &mut LabelTable,
+    history: &mut Vec<Event>,
+    ticket: u32,
+    plan: &Plan,
+    event: Event,
+) -> Result<Applied, NoMemory>
+    requires plan { (s : Slow) × IsAt machine.old s
+        × IsPlan s ticket plan.now.verdict plan.now.first_new plan.now.stale }
+    requires room { vec_len history.old < vec_capacity history.old }
+    ensures moved { OnOk result (MovesBy
+        (Finished ticket plan.now.verdict plan.now.first_new plan.now.stale)
+        machine.old machine.new) }
+    ensures applied { IfOk result (λ a. a ≡ told_of machine.old.store plan.now.verdict) }
+    ensures pending { OnOk result (machine.new.pending
+        ≡ with_tickets plan.now.stale machine.old.pending) }
+    ensures labels { OnOk result (AreSameLabels labels.new (without_label ticket labels.old)) }
+    ensures history { OnOk result (history.new.items ≡ history.old.items ++ event ∷ []) }
+    ensures unchanged { OnErr result ((machine.new ≡ machine.old) × (labels.new ≡ labels.old)
+        × (history.new.items ≡ history.old.items)) }
+{
+    let applied = machine.finish(ticket, plan)?;
+    labels.remove(ticket);
+    history.push_reserved(event);
+    Ok(applied)
+}
+
 /// What a finish did by its plan.
 pub(crate) fn finish_by(plan: Plan, applied: Applied) -> Finish
     ensures verdict { result.verdict ≡ plan.verdict }
@@ -111,9 +143,14 @@ impl Desk {
         ensures unchanged { OnErr result (self.new ≡ self.old) }
     {
         let event = finished_event(&mut self.history, client, ticket, plan)?;
-        let applied = self.machine.finish(ticket, plan)?;
-        self.labels.remove(ticket);
-        self.history.push_reserved(event);
+        let applied = finish_parts(
+            &mut self.machine,
+            &mut self.labels,
+            &mut self.history,
+            ticket,
+            plan,
+            event,
+        )?;
         Ok(applied)
     }
 

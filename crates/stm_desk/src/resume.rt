@@ -32,7 +32,7 @@ impl Desk {
         table: Table,
         checkpoint: Option<Checkpoint>,
         events: Vec<Event>,
-        mut machine: Machine,
+        machine: Machine,
         labels: LabelTable,
         max_events: u32,
     ) -> Result<Desk, TooManyEvents>
@@ -55,6 +55,32 @@ impl Desk {
         if events.len() > max_events as usize {
             return Err(TooManyEvents);
         }
+        Ok(Desk::resumed(table, checkpoint, events, machine, labels, max_events))
+    }
+
+    /// The desk, of a history that has no more events than it may take.
+    fn resumed(
+        table: Table,
+        checkpoint: Option<Checkpoint>,
+        events: Vec<Event>,
+        mut machine: Machine,
+        labels: LabelTable,
+        max_events: u32,
+    ) -> Desk
+        requires start { MayStart table checkpoint }
+        requires legal { IsLegalFrom (start_of table checkpoint) events.items }
+        requires at { IsAt machine (state_from (start_of table checkpoint) events.items) }
+        requires typed { SubmittedAreWellTyped events.items }
+        requires labels { AreSameLabels labels (labels_from (first_labels checkpoint) events.items) }
+        requires small { max_events ≤ most_events }
+        requires few { length events.items ≤ max_events }
+        ensures table { result.table ≡ table }
+        ensures checkpoint { result.checkpoint ≡ checkpoint }
+        ensures limit { result.limit ≡ max_events }
+        ensures history { result.history ≡ events.items }
+        ensures queue { DeskQueueIsRight result }
+        ensures none_out { some_out result.pending ≡ false }
+    {
         machine.recall();
         let desk = Desk {
             table,
@@ -66,6 +92,6 @@ impl Desk {
         };
         // The queue is known to be right by this.
         let _queue = desk.waiting();
-        Ok(desk)
+        desk
     }
 }

@@ -1,34 +1,31 @@
 use Rattle.std.proofs.Common.{◌≡◌, ◌∙◌, ℕ, List, None, Some, [], ◌∷◌, false, length, refl, sym, ap, subst, arith}
 use Rattle.stm_store.specs.declared.cell.Cell.{Cell}
-use Rattle.stm_store.specs.Cells.{plains, Fits, applied_answer}
+use Rattle.stm_store.specs.Cells.{applied_answer}
 use Rattle.stm_events.specs.declared.event.What.TheVariants.{Submitted, Installed, Finished}
 use Rattle.stm_events.specs.Labels.{AreSameLabels, without_label}
-use Rattle.stm_events.specs.Refusals.{submit_refused, overflows}
+use Rattle.stm_events.specs.Refusals.{submit_refused}
 use Rattle.stm_events.specs.SlowAtomically.{atomically}
-use Rattle.stm_events.specs.SlowDesk.{state_from, verdict_on}
-use Rattle.stm_machine.specs.Atomic.{IsRunPlan}
-use Rattle.stm_machine.specs.Checkpoints.{start_of}
-use Rattle.stm_desk.specs.DeskView.{DeskView, state_of, lacks_room}
+use Rattle.stm_events.specs.SlowDesk.{verdict_on}
+use Rattle.stm_desk.specs.DeskView.{DeskView, state_of}
 use Rattle.stm_desk.specs.Settling.{with_whats}
-use Rattle.stm_desk.proofs.Atomically.{kept_moves, three_more, has_room, ended_whats, ended, not_full}
+use Rattle.stm_desk.proofs.Atomically.{kept_moves, three_more, has_room, is_planned, ended_whats, ended, not_full}
 use Rattle.stm_desk.proofs.Calls.{ticket_left}
 use Rattle.stm_desk.proofs.Labels.{label_goes_at_once}
+use Rattle.stm_desk.proofs.Views.{view_of, room_for}
 use Rattle.stm_desk.proofs.desk.Desk.finish_at_once.Goals as goal
 
 pub run-requires : goal.run-requires
 run-requires c =
-    let s = state_from (start_of c.self.inside.table c.self.inside.checkpoint) c.self.inside.history.items in
-    let r = subst (λ (d : DeskView). lacks_room d 3 ≡ false) (sym c.self.view_is) c.requires.room in
-    let f = subst (λ (d : DeskView). Fits (plains (state_of d).store) c.args.verdict.now) (sym c.self.view_is) c.requires.fits in
-    let o = subst (λ (d : DeskView). overflows (state_of d).store (Some c.args.verdict.now) ≡ false) (sym c.self.view_is) c.requires.cells in
-    let p : IsRunPlan s c.in_ok-plan.plan.verdict c.in_ok-plan.plan.first_new c.in_ok-plan.plan.stale = rw c.in_ok-plan.ensures.verdict (c.in_ok-plan.ensures.plan s c.self.invariant.0.at f c.requires.ends o) in
+    let s = state_of (view_of c.self.inside) in
+    let r = room_for 3 c.self.view_is c.requires.room in
+    let p = is_planned c.self.inside.machine {d = view_of c.self.inside} c.self.invariant.0.at c.self.view_is c.in_ok-plan.ensures.plan c.in_ok-plan.ensures.verdict c.requires.fits c.requires.ends c.requires.cells in
     (s, c.self.invariant.0.at, ticket_left _ _ _ _ _ c.self.invariant.0 (not_full _ _ 3 r (omega arith)), p)
 
 pub invariant_of-self-2 : goal.invariant_of-self-2
 invariant_of-self-2 c =
-    let s = state_from (start_of c.self.inside.table c.self.inside.checkpoint) c.self.inside.history.items in
+    let s = state_of (view_of c.self.inside) in
     let e = subst (λ (d : DeskView). submit_refused (state_of d) false c.args.block ≡ None) (sym c.self.view_is) c.requires.allowed in
-    let r = subst (λ (d : DeskView). lacks_room d 3 ≡ false) (sym c.self.view_is) c.requires.room in
+    let r = room_for 3 c.self.view_is c.requires.room in
     let v = subst (λ (d : DeskView). verdict_on (state_of d).store c.args.block ≡ Some c.args.verdict.now) (sym c.self.view_is) c.requires.verdict in
     let moves = c.in_ok-applied.ensures.moved s c.args.block c.self.invariant.0.at e (v ∙ ap Some (sym c.in_ok-plan.ensures.verdict)) in
     let next : c.next_ticket-ticket.result ≡ s.next = c.next_ticket-ticket.ensures.next s c.self.invariant.0.at in
@@ -43,12 +40,10 @@ invariant_of-self-2 c =
 
 pub returns-clause-accepted : goal.returns-clause-accepted
 returns-clause-accepted c =
-    let d : DeskView = record { table = c.self.inside.table; checkpoint = c.self.inside.checkpoint; limit = c.self.inside.limit; history = c.self.inside.history.items; pending = c.self.inside.machine.pending } in
+    let d = view_of c.self.inside in
     let s = state_of d in
     let v = subst (λ (d : DeskView). verdict_on (state_of d).store c.args.block ≡ Some c.args.verdict.now) (sym c.self.view_is) c.requires.verdict in
-    let f = subst (λ (d : DeskView). Fits (plains (state_of d).store) c.args.verdict.now) (sym c.self.view_is) c.requires.fits in
-    let o = subst (λ (d : DeskView). overflows (state_of d).store (Some c.args.verdict.now) ≡ false) (sym c.self.view_is) c.requires.cells in
-    let p : IsRunPlan s c.in_ok-plan.plan.verdict c.in_ok-plan.plan.first_new c.in_ok-plan.plan.stale = rw c.in_ok-plan.ensures.verdict (c.in_ok-plan.ensures.plan s c.self.invariant.0.at f c.requires.ends o) in
+    let p = is_planned c.self.inside.machine {d = view_of c.self.inside} c.self.invariant.0.at c.self.view_is c.in_ok-plan.ensures.plan c.in_ok-plan.ensures.verdict c.requires.fits c.requires.ends c.requires.cells in
     let next : c.next_ticket-ticket.result ≡ s.next = c.next_ticket-ticket.ensures.next s c.self.invariant.0.at in
     rw (c.push_three.ensures, c.in_ok-events.ensures.submitted, c.in_ok-events.ensures.installed, c.in_ok-events.ensures.finished, c.in_ok-events.ensures.items, next, c.in_ok-applied.ensures.pending)
     (ended d c.self.inside.machine c.args.client c.args.block c.in_ok-plan.plan.verdict c.in_ok-plan.plan.first_new c.in_ok-plan.plan.stale c.self.invariant.0.at refl (v ∙ ap Some (sym c.in_ok-plan.ensures.verdict)) p
@@ -56,13 +51,11 @@ returns-clause-accepted c =
 
 pub returns-clause-events : goal.returns-clause-events
 returns-clause-events c =
-    let d : DeskView = record { table = c.self.inside.table; checkpoint = c.self.inside.checkpoint; limit = c.self.inside.limit; history = c.self.inside.history.items; pending = c.self.inside.machine.pending } in
+    let d = view_of c.self.inside in
     let s = state_of d in
     let k = c.self.invariant.0.at in
     let v = subst (λ (d : DeskView). verdict_on (state_of d).store c.args.block ≡ Some c.args.verdict.now) (sym c.self.view_is) c.requires.verdict in
-    let f = subst (λ (d : DeskView). Fits (plains (state_of d).store) c.args.verdict.now) (sym c.self.view_is) c.requires.fits in
-    let o = subst (λ (d : DeskView). overflows (state_of d).store (Some c.args.verdict.now) ≡ false) (sym c.self.view_is) c.requires.cells in
-    let p : IsRunPlan s c.in_ok-plan.plan.verdict c.in_ok-plan.plan.first_new c.in_ok-plan.plan.stale = rw c.in_ok-plan.ensures.verdict (c.in_ok-plan.ensures.plan s k f c.requires.ends o) in
+    let p = is_planned c.self.inside.machine {d = view_of c.self.inside} k c.self.view_is c.in_ok-plan.ensures.plan c.in_ok-plan.ensures.verdict c.requires.fits c.requires.ends c.requires.cells in
     let next : c.next_ticket-ticket.result ≡ s.next = c.next_ticket-ticket.ensures.next s k in
     let first : c.in_ok-applied.applied.first_new ≡ c.in_ok-plan.plan.first_new = ap (λ a. a.first_new) c.in_ok-applied.ensures.applied ∙ ap length k.stands.store_is ∙ sym p.first_new_is in
     rw (c.finish_by.ensures.verdict, c.finish_by.ensures.applied, c.finish_by.ensures.stale, next, first)

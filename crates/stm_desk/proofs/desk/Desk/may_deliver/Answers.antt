@@ -8,6 +8,7 @@ use Rattle.stm_desk.specs.DeskView.{DeskView, state_of, is_full}
 use Rattle.stm_desk.specs.Limit.{limited_delivery}
 use Rattle.stm_desk.specs.Refusals.{RefusesDelivery}
 use Rattle.stm_desk.proofs.Limit.{delivery_limited, delivery_room, delivery_allowed}
+use Rattle.stm_desk.proofs.Views.{view_of}
 use Rattle.stm_desk.proofs.desk.Desk.may_deliver.Goals as goal
 
 at_state : {A E : Type 0} (r : Result A E) (m : Parts) (s : Slow) (message : Evaluated) → IsAt m s → OnOk r ((s : Slow) → IsAt m s → MayDeliver s message) → OnOk r (MayDeliver s message)
@@ -16,7 +17,7 @@ at_state (Err e) m s message k h = tt
 
 pub returns-clause-refused : goal.returns-clause-refused
 returns-clause-refused c =
-    let d : DeskView = record { table = c.self.inside.table; checkpoint = c.self.inside.checkpoint; limit = c.self.inside.limit; history = c.self.inside.history.items; pending = c.self.inside.machine.pending } in
+    let d = view_of c.self.inside in
     let s = state_of d in
     let m = c.args.message.now in
     let g : RefusesDelivery (limited_delivery (is_full d) c.may_deliver.result) d m =
@@ -25,7 +26,7 @@ returns-clause-refused c =
 
 pub returns-clause-allowed : goal.returns-clause-allowed
 returns-clause-allowed c =
-    let d : DeskView = record { table = c.self.inside.table; checkpoint = c.self.inside.checkpoint; limit = c.self.inside.limit; history = c.self.inside.history.items; pending = c.self.inside.machine.pending } in
+    let d = view_of c.self.inside in
     let m = c.args.message.now in
     let g : OnOk (limited_delivery (is_full d) c.may_deliver.result) (MayDeliver (state_of d) m) =
     delivery_allowed (MayDeliver (state_of d) m) (is_full d) c.may_deliver.result (at_state c.may_deliver.result c.self.inside.machine (state_of d) m c.self.invariant.0.at c.may_deliver.ensures.allowed) in

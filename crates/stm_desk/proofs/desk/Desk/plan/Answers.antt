@@ -11,6 +11,7 @@ use Rattle.stm_desk.specs.DeskView.{DeskView, state_of, is_full}
 use Rattle.stm_desk.specs.Limit.{limited_plan}
 use Rattle.stm_desk.specs.Refusals.{finish_refusal}
 use Rattle.stm_desk.proofs.Limit.{finish_limited, plan_limited, plan_room}
+use Rattle.stm_desk.proofs.Views.{view_of}
 use Rattle.stm_desk.proofs.desk.Desk.plan.Goals as goal
 
 at_state : (r : Result Plan FinishError) (m : Parts) (s : Slow) (t : _) → IsAt m s → IfOk r (λ p. (s : Slow) → IsAt m s → IsPlan s t p.verdict p.first_new p.stale) → IfOk r (λ p. IsPlan s t p.verdict p.first_new p.stale)
@@ -19,7 +20,7 @@ at_state (Err e) m s t k h = tt
 
 pub returns-clause-refused : goal.returns-clause-refused
 returns-clause-refused c =
-    let d : DeskView = record { table = c.self.inside.table; checkpoint = c.self.inside.checkpoint; limit = c.self.inside.limit; history = c.self.inside.history.items; pending = c.self.inside.machine.pending } in
+    let d = view_of c.self.inside in
     let s = state_of d in
     let t = c.args.ticket in
     let g : RefusedAs NoMemory (finish_refusal d t) (limited_plan (is_full d) c.plan.result) =
@@ -28,7 +29,7 @@ returns-clause-refused c =
 
 pub returns-clause-plan : goal.returns-clause-plan
 returns-clause-plan c =
-    let d : DeskView = record { table = c.self.inside.table; checkpoint = c.self.inside.checkpoint; limit = c.self.inside.limit; history = c.self.inside.history.items; pending = c.self.inside.machine.pending } in
+    let d = view_of c.self.inside in
     let t = c.args.ticket in
     let g : IfOk (limited_plan (is_full d) c.plan.result) (λ p. IsPlan (state_of d) t p.verdict p.first_new p.stale) =
     plan_limited (λ p. IsPlan (state_of d) t p.verdict p.first_new p.stale) (is_full d) c.plan.result (at_state c.plan.result c.self.inside.machine (state_of d) t c.self.invariant.0.at c.plan.ensures.plan) in

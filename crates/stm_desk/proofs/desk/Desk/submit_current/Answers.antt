@@ -5,24 +5,25 @@ use Rattle.stm_events.specs.SlowAtomically.{atomically}
 use Rattle.stm_events.specs.SlowDesk.{state_from}
 use Rattle.stm_machine.specs.Atomic.{IsVerdictOf}
 use Rattle.stm_machine.specs.Checkpoints.{start_of}
-use Rattle.stm_desk.specs.DeskView.{DeskView, state_of, lacks_room}
+use Rattle.stm_desk.specs.DeskView.{DeskView, state_of}
 use Rattle.stm_desk.specs.Settling.{with_whats}
 use Rattle.stm_desk.proofs.Atomically.{kept_moves, two_more, has_room, waited, not_full}
 use Rattle.stm_desk.proofs.Calls.{ticket_left}
 use Rattle.stm_desk.proofs.Labels.{labels_stay_twice}
+use Rattle.stm_desk.proofs.Views.{view_of, room_for}
 use Rattle.stm_desk.proofs.desk.Desk.submit_current.Goals as goal
 
 pub submit_current-requires : goal.submit_current-requires
 submit_current-requires c =
     let e = subst (λ (d : DeskView). submit_refused (state_of d) false c.args.block ≡ None) (sym c.self.view_is) c.requires.allowed in
-    let r = subst (λ (d : DeskView). lacks_room d 2 ≡ false) (sym c.self.view_is) c.requires.room in
+    let r = room_for 2 c.self.view_is c.requires.room in
     let v = subst (λ (d : DeskView). IsVerdictOf (state_of d) c.args.block c.args.verdict c.args.scratch.now) (sym c.self.view_is) c.requires.verdict in
     (state_from (start_of c.self.inside.table c.self.inside.checkpoint) c.self.inside.history.items, c.self.invariant.0.at, ticket_left _ _ _ _ _ c.self.invariant.0 (not_full _ _ 2 r (omega arith)), e, v, c.requires.blocks)
 
 pub invariant_of-self-2 : goal.invariant_of-self-2
 invariant_of-self-2 c =
     let s = state_from (start_of c.self.inside.table c.self.inside.checkpoint) c.self.inside.history.items in
-    let r = subst (λ (d : DeskView). lacks_room d 2 ≡ false) (sym c.self.view_is) c.requires.room in
+    let r = room_for 2 c.self.view_is c.requires.room in
     let moves = c.in_ok-submit_current.ensures.moved s c.self.invariant.0.at in
     rw (c.push_two.ensures, c.in_ok-reserve.ensures.items, c.in_ok-shared.ensures, c.in_ok-installed.ensures, c.next_ticket-ticket.ensures.parts, two_more) (
       kept_moves _ _ _ _ _ c.self.invariant.0 c.args.client (Submitted c.self.inside.machine.next c.args.block ∷ Installed c.self.inside.machine.next c.args.verdict ∷ []) c.submit_current.new.self
@@ -32,7 +33,7 @@ invariant_of-self-2 c =
 
 pub returns-clause-accepted : goal.returns-clause-accepted
 returns-clause-accepted c =
-    let d : DeskView = record { table = c.self.inside.table; checkpoint = c.self.inside.checkpoint; limit = c.self.inside.limit; history = c.self.inside.history.items; pending = c.self.inside.machine.pending } in
+    let d = view_of c.self.inside in
     let v = subst (λ (d : DeskView). IsVerdictOf (state_of d) c.args.block c.args.verdict c.args.scratch.now) (sym c.self.view_is) c.requires.verdict in
     let next : c.next_ticket-ticket.result ≡ (state_of d).next = c.next_ticket-ticket.ensures.next (state_of d) c.self.invariant.0.at in
     rw (c.push_two.ensures, c.in_ok-reserve.ensures.items, c.in_ok-shared.ensures, c.in_ok-installed.ensures, next, c.in_ok-submit_current.ensures.pending)

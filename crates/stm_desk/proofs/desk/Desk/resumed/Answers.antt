@@ -1,4 +1,4 @@
-use Rattle.std.proofs.Common.{◌∙◌, [], ap, arith}
+use Rattle.std.proofs.Common.{◌∙◌, [], ap}
 use Rattle.stm_events.specs.SlowDesk.{state_from}
 use Rattle.stm_machine.specs.Checkpoints.{start_of}
 use Rattle.stm_machine.specs.Machine.{Parts}
@@ -6,7 +6,7 @@ use Rattle.stm_machine.specs.SettleChoices.{some_out}
 use Rattle.stm_desk.specs.DeskView.{DeskView}
 use Rattle.stm_desk.proofs.CheckpointLabels.{labels_begin}
 use Rattle.stm_desk.proofs.Runs.{out_back}
-use Rattle.stm_desk.proofs.desk.Desk.resume.Goals as goal
+use Rattle.stm_desk.proofs.desk.Desk.resumed.Goals as goal
 
 pub invariant_of-desk : goal.invariant_of-desk
 invariant_of-desk c = (
@@ -14,7 +14,7 @@ invariant_of-desk c = (
     start = c.requires.start;
     legal = c.requires.legal;
     at = c.recall.ensures.kept (state_from (start_of c.args.table c.args.checkpoint) c.args.events.items) c.requires.at;
-    few = omega arith;
+    few = c.requires.few;
     small = c.requires.small;
     typed = c.requires.typed;
   },
