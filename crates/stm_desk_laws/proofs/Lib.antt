@@ -1,1 +1,3 @@
 mod WholeLives
+mod VerdictRange
+mod HistoryRange

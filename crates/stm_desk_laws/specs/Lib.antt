@@ -1,2 +1,3 @@
--- What a reader has to believe: what holds of a desk over all its checkpoints.
+-- What a reader has to believe: what holds of a desk over all its checkpoints, and of the integers in its history.
 pub mod Lives
+pub mod IntegerRange
