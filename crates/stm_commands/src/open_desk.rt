@@ -17,19 +17,21 @@ use std::alloc::Global;
 use std::marker::Model;
 use stm_check::SharedBlock;
 use stm_desk::{Checkpoint, Desk};
+use stm_eval::Scratch;
 use stm_events::Event;
 use stm_source::{BlockCache, Refusal};
 use stm_store::{Frozen, Table};
 use stm_terms::NoMemory;
 
 /// The desk, the jobs that were handed out, and a copy of the present store on which `try` and `looks` run blocks: it is
-/// made when it is asked for, and kept until the store may change; and blocks that were asked for, by their texts. Contracts
-/// see the desk and the jobs, each with the store at its `take`, whether or not that store is still kept.
+/// made when it is asked for, and kept until the store may change; the lists of those runs; and blocks that were asked for, by their
+/// texts. Contracts see the desk and the jobs, each with the store at its `take`, whether or not that store is still kept.
 pub struct OpenDesk {
     pub(crate) desk: Desk,
     pub(crate) copy: Option<Frozen>,
     pub(crate) jobs: Vec<KeptJob>,
     pub(crate) stores: Stores,
+    pub(crate) scratch: Scratch,
     pub(crate) cache: BlockCache,
 }
 
@@ -41,6 +43,7 @@ impl Drop for OpenDesk {
             copy: _,
             jobs: _,
             stores: _,
+            scratch: _,
             cache: _,
         } = self;
     }
@@ -83,6 +86,7 @@ impl OpenDesk {
             copy: None,
             jobs: Vec::new(alloc),
             stores: Stores::new(alloc),
+            scratch: Scratch::new(alloc),
             cache,
         })
     }

@@ -15,12 +15,15 @@ use std::alloc::Global;
 use stm_check::SharedBlock;
 use stm_desk::Ran;
 use stm_terms::NoMemory;
+use stm_terms::text::write_number;
 
 #[tactic(auto, unfolding(crate::specs::Atomically::waits_line))]
 fn write_waits_line(ticket: u32, out: &mut String) -> Result<(), NoMemory>
     ensures { OnOk result (string_bytes out.new ≡ string_bytes out.old ++ waits_line ticket) }
 {
-    write!(out, "waits {ticket}\n")
+    out.push_str("waits ")?;
+    write_number(ticket, out)?;
+    out.push_str("\n")
 }
 
 /// Appends what running a block came to.

@@ -9,12 +9,15 @@ use crate::open_desk::OpenDesk;
 use crate::refusals::{refuse_argument, refuse_cancel};
 use stm_lines::arguments::number_of;
 use stm_terms::NoMemory;
+use stm_terms::text::write_number;
 
 #[tactic(auto, unfolding(crate::specs::Endings::cancelled_line))]
 fn write_cancelled(ticket: u32, out: &mut String) -> Result<(), NoMemory>
     ensures { OnOk result (string_bytes out.new ≡ string_bytes out.old ++ cancelled_line ticket) }
 {
-    write!(out, "cancelled {ticket}\n")
+    out.push_str("cancelled ")?;
+    write_number(ticket, out)?;
+    out.push_str("\n")
 }
 
 impl OpenDesk {

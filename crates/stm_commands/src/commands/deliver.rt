@@ -16,12 +16,15 @@ use std::alloc::Global;
 use stm_desk::Desk;
 use stm_lines::arguments::number_of;
 use stm_terms::NoMemory;
+use stm_terms::text::write_number;
 
 #[tactic(auto, unfolding(crate::specs::Jobs::delivered_line))]
 fn write_delivered(ticket: u32, out: &mut String) -> Result<(), NoMemory>
     ensures { OnOk result (string_bytes out.new ≡ string_bytes out.old ++ delivered_line ticket) }
 {
-    write!(out, "delivered {ticket}\n")
+    out.push_str("delivered ")?;
+    write_number(ticket, out)?;
+    out.push_str("\n")
 }
 
 /// Delivers what the block of a job does on the store of its `take`. The block isn't evaluated if no delivery to its ticket

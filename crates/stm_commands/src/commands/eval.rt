@@ -12,12 +12,15 @@ use std::alloc::Global;
 use std::thread::Threads;
 use stm_desk::DeliverError;
 use stm_terms::NoMemory;
+use stm_terms::text::write_number;
 
 #[tactic(auto, unfolding(crate::specs::Evaluation::evaluated_line))]
 fn write_evaluated(count: u32, out: &mut String) -> Result<(), NoMemory>
     ensures { OnOk result (string_bytes out.new ≡ string_bytes out.old ++ evaluated_line count) }
 {
-    write!(out, "evaluated {count}\n")
+    out.push_str("evaluated ")?;
+    write_number(count, out)?;
+    out.push_str("\n")
 }
 
 /// Appends how evaluating all that was queued ended.

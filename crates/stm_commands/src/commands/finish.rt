@@ -50,7 +50,9 @@ fn write_result(ticket: u32, value: Value, stale: &[u32], out: &mut String) -> R
     ensures { OnOk result
         (string_bytes out.new ≡ string_bytes out.old ++ result_line ticket value stale.now) }
 {
-    write!(out, "finished {ticket} result ")?;
+    out.push_str("finished ")?;
+    write_number(ticket, out)?;
+    out.push_str(" result ")?;
     write_value(value, out)?;
     out.push_str(" stale ")?;
     write_tickets(stale, out)?;
@@ -73,7 +75,9 @@ fn write_finished(
         (Verdict::Commits { .. }, Some(value)) => write_result(ticket, value, stale, out),
         (Verdict::Commits { .. }, None) => unreachable!(),
         (Verdict::Throws(_), _) => {
-            write!(out, "finished {ticket} ")?;
+            out.push_str("finished ")?;
+            write_number(ticket, out)?;
+            out.push_str(" ")?;
             write_verdict(verdict, out)?;
             out.push_str("\n")
         }

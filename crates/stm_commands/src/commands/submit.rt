@@ -10,12 +10,15 @@ use crate::refusals::{refuse_submit, write_refusal};
 use std::alloc::Global;
 use stm_check::SharedBlock;
 use stm_terms::NoMemory;
+use stm_terms::text::write_number;
 
 #[tactic(auto, unfolding(crate::specs::Blocks::ticket_line))]
 fn write_ticket_line(ticket: u32, out: &mut String) -> Result<(), NoMemory>
     ensures { OnOk result (string_bytes out.new ≡ string_bytes out.old ++ ticket_line ticket) }
 {
-    write!(out, "ticket {ticket}\n")
+    out.push_str("ticket ")?;
+    write_number(ticket, out)?;
+    out.push_str("\n")
 }
 
 impl OpenDesk {

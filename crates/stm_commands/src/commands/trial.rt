@@ -11,7 +11,7 @@ use crate::open_desk::OpenDesk;
 use crate::refusals::write_refusal;
 use std::alloc::Global;
 use stm_check::Typed;
-use stm_eval::try_block;
+use stm_eval::try_block_in;
 use stm_terms::NoMemory;
 use stm_terms::text::{write_verdict, write_writes};
 use stm_terms::values::Value;
@@ -39,39 +39,30 @@ pub fn write_reads_line(reads: &[(u32, Value)], out: &mut String) -> Result<(), 
 
 impl OpenDesk {
     /// Appends the verdict of a block on the present store.
-    fn write_tried(
-        &mut self,
-        alloc: Global,
-        block: &Typed,
-        out: &mut String,
-    ) -> Result<(), NoMemory>
+    fn write_tried(&mut self, block: &Typed, out: &mut String) -> Result<(), NoMemory>
         requires { Covers (plains (present self.old)) block.now.uses }
         ensures text { OnOk result (string_bytes out.new
             ≡ string_bytes out.old ++ verdict_line (verdict_on (present self.old) block.now)) }
         ensures same { self.new ≡ self.old }
     {
         let copy = self.take_copy()?;
-        let (verdict, _reads) = try_block(alloc, &copy, block)?;
+        let verdict = try_block_in(&mut self.scratch, &copy, block)?;
         self.keep_copy(copy);
         write_verdict_line(&verdict, out)
     }
 
     /// Appends what a block reads on the present store.
-    fn write_looked(
-        &mut self,
-        alloc: Global,
-        block: &Typed,
-        out: &mut String,
-    ) -> Result<(), NoMemory>
+    fn write_looked(&mut self, block: &Typed, out: &mut String) -> Result<(), NoMemory>
         requires { Covers (plains (present self.old)) block.now.uses }
         ensures text { OnOk result (string_bytes out.new ≡ string_bytes out.old
             ++ reads_line (reads_of (under (present self.old)) block.now.tree)) }
         ensures same { self.new ≡ self.old }
     {
         let copy = self.take_copy()?;
-        let (_verdict, reads) = try_block(alloc, &copy, block)?;
+        let _verdict = try_block_in(&mut self.scratch, &copy, block)?;
+        let written = write_reads_line(self.scratch.as_slice(), out);
         self.keep_copy(copy);
-        write_reads_line(reads.as_slice(), out)
+        written
     }
 
     /// Answers `try`: the verdict of a block.
@@ -87,7 +78,7 @@ impl OpenDesk {
         ensures same { self.new ≡ self.old }
     {
         match self.block(alloc, text) {
-            Ok(block) => self.write_tried(alloc, block.block(), out),
+            Ok(block) => self.write_tried(block.block(), out),
             Err(refusal) => write_refusal(refusal, out),
         }
     }
@@ -105,7 +96,7 @@ impl OpenDesk {
         ensures same { self.new ≡ self.old }
     {
         match self.block(alloc, text) {
-            Ok(block) => self.write_looked(alloc, block.block(), out),
+            Ok(block) => self.write_looked(block.block(), out),
             Err(refusal) => write_refusal(refusal, out),
         }
     }
