@@ -219,7 +219,10 @@ impl Console {
     }
 
     /// Opens the desk, unless it is open.
-    fn open(&mut self, alloc: Global) -> Result<(), NoMemory>
+    //
+    // It is apart from `open`, which mostly finds an open desk, since it has large temporaries.
+    #[inline(never)]
+    fn open_now(&mut self, alloc: Global) -> Result<(), NoMemory>
         ensures opened { OnOk result (self.new ≡ IsOpen (present_desk self.old)) }
         ensures same { OnErr result (self.new ≡ self.old) }
     {
@@ -229,6 +232,17 @@ impl Console {
         };
         *self = Console::Open(desk);
         Ok(())
+    }
+
+    /// Opens the desk, unless it is open.
+    fn open(&mut self, alloc: Global) -> Result<(), NoMemory>
+        ensures opened { OnOk result (self.new ≡ IsOpen (present_desk self.old)) }
+        ensures same { OnErr result (self.new ≡ self.old) }
+    {
+        match self {
+            Console::Open(_) => Ok(()),
+            Console::Declaring { .. } => self.open_now(alloc),
+        }
     }
 
     /// The desk, which is opened unless it is open.
