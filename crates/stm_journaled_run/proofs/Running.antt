@@ -125,6 +125,12 @@ module _ {Cause : Type 0} (K : Console → Type 0) (every : ℕ) (s : Console) (
       → HasCome Cause K' every s input rest old new' console' held' recorded'
   comes_after K' new' console' held' recorded' a = record { taken = h.taken; lines = h.lines; consumed = h.consumed; lines_are = h.lines_are; after = a }
 
+  -- the same lines, whatever they are
+  pub still_come : (K' : Console → Type 0) (new' : Option (List ℕ)) (console' : Console) (held' : List ℕ) (recorded' : ℕ)
+      → ((lines : List (Turn Cause)) (x : Option (List ℕ)) → IsAfterLines K every s lines x new console held recorded → IsAfterLines K' every s lines x new' console' held' recorded')
+      → HasCome Cause K' every s input rest old new' console' held' recorded'
+  still_come K' new' console' held' recorded' keeps = comes_after K' new' console' held' recorded' (keeps h.lines old h.after)
+
   -- one line more
   turns_more : (line : List ℕ) (refused : Option Cause) → turn_lines (h.lines ++ turn_of line refused ∷ []) ≡ turn_lines h.lines ++ line ∷ []
   turns_more line refused = turn_lines_append h.lines (turn_of line refused ∷ [])

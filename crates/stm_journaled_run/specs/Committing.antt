@@ -1,5 +1,5 @@
 -- What a run keeps between two lines, and how it goes on.
-use Rattle.std.specs.Prelude.{◌≡◌, ◌≢◌, ◌⊎◌, ⊤, ℕ, Bool, true, false, IsTrue, List, [], ◌++◌, length, Option, Some, IfSome, codes}
+use Rattle.std.specs.Prelude.{◌≡◌, ◌≢◌, ◌⊎◌, ⊤, ℕ, Bool, true, false, IsTrue, List, [], ◌++◌, length, Option, Some, IfSome, MatchBool, codes}
 use Rattle.std.specs.Io.KnownBytes.{Appends, Consumes}
 use Rattle.stm_terms.specs.Texts.{IsPrefixOf}
 use Rattle.stm_events.specs.declared.event.Event.{Event}
@@ -199,6 +199,11 @@ BeginningLeaves disk old new console =
     → LeavesOnly disk old.journal.device new.journal.device
     (λ f. LeavesBetween old.journal.sync disk.fills_with_zeros c.committed c.committed f
     ⊎ LeavesBetween old.journal.sync disk.fills_with_zeros c.committed console f)
+
+-- If the file was replaced it has exactly the history of the console, as which a run may begin; if not, it has what it had, for a cause.
+abbrev pub BeginsOrKeeps : {D : Type 0} → Disk D → HistoryFile D → HistoryFile D → Console → Bool → Type 0
+BeginsOrKeeps disk old new console begun =
+    MatchBool begun (KeepsConsole disk new console × MayBeginRun console) (KeepsConsoles disk old new × RefusalCause disk)
 
 -- what a checkpoint leaves that was asked for: the desk is as it was, unless it can be made
 abbrev pub asked_step : Console → Console × List ℕ

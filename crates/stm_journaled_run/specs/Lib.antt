@@ -2,6 +2,7 @@
 pub mod DurableRun
 -- The words inside, for what a run keeps between two lines.
 pub mod Committing
+pub mod GoingOn
 -- What is known of new events, and of their numbers once they are read.
 pub mod NewEvents
 pub mod Ranges

@@ -3,14 +3,10 @@
 //! Answers are held until the events of their lines are in the file. Each byte of an answer is written by `write_held` or
 //! `write_streamed`, which ask for a file that has the history of all lines so far.
 
-ghost use Rattle.std.specs.Prelude.{◌≡◌, ◌≢◌, ◌<◌, ◌++◌, ◌∷◌, [], true, false, ℕ, List, Option, Some, IsTrue, length, string_bytes, OnOk, OnErr, IfOk, IfErr};
+ghost use Rattle.std.specs.Prelude.{◌≡◌, ◌≢◌, ◌<◌, ◌++◌, [], true, false, ℕ, List, Some, length, string_bytes, OnOk, OnErr, IfOk, IfErr};
 ghost use Rattle.std.specs.Io.KnownBytes.{Appends};
 ghost use Rattle.stm_terms.specs.Texts.{IsPrefixOf};
 ghost use Rattle.stm_history_text.specs.HistoryText.{WritesText};
-ghost use Rattle.stm_journal.specs.Disk.{LeavesOnly};
-ghost use Rattle.stm_journal.specs.declared.error.JournalError.TheVariants.{NoMemory as OutOfMemory};
-ghost use Rattle.stm_lines.specs.LineClass.{line_class};
-ghost use Rattle.stm_run.specs.declared.console.Console.{Console as AnyConsole};
 ghost use Rattle.stm_run.specs.Abstraction.{IsStep};
 ghost use Rattle.stm_run.specs.Console.{step};
 ghost use Rattle.stm_machine.specs.Checkpoints.{MayStart};
@@ -20,11 +16,12 @@ ghost use Rattle.stm_run.specs.declared.console.Console.TheVariants.{Open as IsO
 ghost use Rattle.stm_run.specs.ConsoleState.{present_desk, is_open, table_of, events_of, with_checkpoint};
 ghost use Rattle.stm_run.specs.Fitting.{VariablesFit};
 ghost use Rattle.stm_run.specs.Growing.{Grows};
-ghost use Rattle.stm_run.specs.LineCheckpoints.{asks_checkpoint, reply_checkpoints, line_checkpoints, is_streamed, Turn, turn_of, made_turn, refused_step, made_step};
-ghost use Rattle.stm_journaled_run.specs.DurableRun.{RunsUnlessDisk, RefusalCause, KeepsConsole, CoversAnswers};
-ghost use Rattle.stm_journaled_run.specs.Committing.{MayCommit, MayBeginAnew, IsAfterLines, streamed_text, HasNotWritten, CommitLeaves, BeginningLeaves, BeginningLeavesEither, asked_step, no_checkpoint_text, HasTriedCheckpoint, HasTakenLine, has_begun, HasNotTaken, TakingLeaves, FailsAfter};
+ghost use Rattle.stm_run.specs.LineCheckpoints.{asks_checkpoint, reply_checkpoints, line_checkpoints, is_streamed, refused_step, made_step};
+ghost use Rattle.stm_journaled_run.specs.DurableRun.{RunsUnlessDisk, RefusalCause, KeepsConsole};
+ghost use Rattle.stm_journaled_run.specs.Committing.{MayCommit, MayBeginAnew, streamed_text, HasNotWritten, CommitLeaves, BeginningLeaves, BeginningLeavesEither, asked_step, no_checkpoint_text, HasTriedCheckpoint, HasTakenLine, has_begun, HasNotTaken, TakingLeaves};
+ghost use Rattle.stm_journaled_run.specs.GoingOn.{AnswersLine, FailsAfterLines, FailsAtLine, IsBetweenLines, LineLeaves, LinesLeave, StaysAfterLines, run_at};
 
-use crate::beginning::begin_file_anew;
+use crate::beginning::begin_or_report;
 use crate::fault::DurableFault;
 use crate::recording::record_new;
 use std::alloc::Global;
@@ -36,7 +33,7 @@ use stm_commands::refusals::refuse;
 use stm_desk::Checkpoint;
 use stm_history_file::HistoryFile;
 use stm_history_text::WriteFault;
-use stm_journal::{Device, JournalError, Replace, ReplaceError};
+use stm_journal::{Device, Replace};
 use stm_lines::RunFault;
 use stm_lines::output::{flush, write_text};
 use stm_run::console::Console;
@@ -53,21 +50,6 @@ fn fault_of(fault: WriteFault) -> RunFault
     match fault {
         WriteFault::Write => RunFault::Write,
         WriteFault::NoMemory => RunFault::NoMemory,
-    }
-}
-
-/// Whether memory ran out.
-fn is_no_memory(error: JournalError) -> bool
-    ensures yes { result ≡ true → error ≡ OutOfMemory }
-    ensures no { result ≡ false → error ≢ OutOfMemory }
-{
-    match error {
-        JournalError::NoMemory => true,
-        JournalError::Failed => false,
-        JournalError::NoSpace => false,
-        JournalError::Full => false,
-        JournalError::TooLong => false,
-        JournalError::TornTooLong => false,
     }
 }
 
@@ -334,20 +316,14 @@ impl DurableSession {
         ensures journal { IfErr result (λ e. (f : RunFault) → e ≡ DurableFault.Run f → ⊥) }
         ensures any_moment { BeginningLeaves D.disk file.old file.new (with_checkpoint self.old.console) }
     {
-        match begin_file_anew(alloc, &self.console, &checkpoint, file) {
-            Ok(()) => {
+        match begin_or_report(alloc, &self.console, &checkpoint, file) {
+            Ok(true) => {
                 // The history of the console has no event then.
                 self.recorded = 0;
                 Ok(Tried::Made(self.console.begin_from(checkpoint)))
             }
-            Err(ReplaceError::Refused(error)) => {
-                if is_no_memory(error) {
-                    return Err(DurableFault::Journal(error));
-                }
-                file.report(error);
-                Ok(Tried::RefusedByFile)
-            }
-            Err(ReplaceError::Unfinished(error)) => Err(DurableFault::Journal(error)),
+            Ok(false) => Ok(Tried::RefusedByFile),
+            Err(fault) => Err(fault),
         }
     }
 
@@ -501,27 +477,15 @@ impl DurableSession {
         file: &mut HistoryFile<D>,
         writer: &mut W,
     ) -> Result<(), DurableFault>
-        requires { (every : ℕ) × (first : AnyConsole) × (lines : List (Turn (RefusalCause D.disk))) × (old : Option (List ℕ))
-            × IsAfterLines (KeepsConsole D.disk file.old) every first lines old (W.contents writer.old) self.old.console
-            (string_bytes self.old.held) self.old.recorded }
+        requires { (every : ℕ) × IsBetweenLines D.disk every (run_at file.old self.old (W.contents writer.old)) }
         ensures tries { self.new.tries_from ≡ self.old.tries_from }
         ensures sync { file.new.journal.sync ≡ file.old.journal.sync }
         ensures cause { IfErr result (RunsUnlessDisk D.disk) }
-        ensures done { OnOk result ((every : ℕ) (first : AnyConsole) (lines : List (Turn (RefusalCause D.disk))) (old : Option (List ℕ))
-            → IsAfterLines (KeepsConsole D.disk file.old) every first lines old (W.contents writer.old) self.old.console
-            (string_bytes self.old.held) self.old.recorded
-            → IsAfterLines (KeepsConsole D.disk file.new) every first lines old (W.contents writer.new) self.new.console
-            (string_bytes self.new.held) self.new.recorded) }
-        ensures fault { IfErr result (λ e. (every : ℕ) (first : AnyConsole) (lines : List (Turn (RefusalCause D.disk))) (old : Option (List ℕ))
-            → IsAfterLines (KeepsConsole D.disk file.old) every first lines old (W.contents writer.old) self.old.console
-            (string_bytes self.old.held) self.old.recorded
-            → FailsAfter D.disk file.old file.new
-            every first lines old (W.contents writer.new) e) }
-        ensures any_moment { IsTrue D.disk.is_honest → (every : ℕ) (first : AnyConsole) (lines : List (Turn (RefusalCause D.disk))) (old : Option (List ℕ))
-            → IsAfterLines (KeepsConsole D.disk file.old) every first lines old (W.contents writer.old) self.old.console
-            (string_bytes self.old.held) self.old.recorded
-            → LeavesOnly D.disk file.old.journal.device file.new.journal.device
-            (CoversAnswers file.old.journal.sync D.disk.fills_with_zeros every first lines []) }
+        ensures done { OnOk result (StaysAfterLines D.disk (run_at file.old self.old (W.contents writer.old))
+            (run_at file.new self.new (W.contents writer.new))) }
+        ensures fault { IfErr result (FailsAfterLines D.disk (run_at file.old self.old (W.contents writer.old))
+            file.new (W.contents writer.new)) }
+        ensures any_moment { LinesLeave D.disk (run_at file.old self.old (W.contents writer.old)) file.new }
         ensures read { IfErr result (λ e. e ≢ DurableFault.Run RunFault.Read) }
     {
         if self.held.len() < MOST_HELD {
@@ -541,32 +505,16 @@ impl DurableSession {
         file: &mut HistoryFile<D>,
         writer: &mut W,
     ) -> Result<(), DurableFault>
-        requires after { (first : AnyConsole) × (before : List (Turn (RefusalCause D.disk))) × (old : Option (List ℕ))
-            × IsAfterLines (KeepsConsole D.disk file.old) every first before old (W.contents writer.old) self.old.console
-            (string_bytes self.old.held) self.old.recorded }
+        requires between { IsBetweenLines D.disk every (run_at file.old self.old (W.contents writer.old)) }
         requires because { 0 < self.old.tries_from → RefusalCause D.disk }
         ensures because { 0 < self.new.tries_from → RefusalCause D.disk }
         ensures sync { file.new.journal.sync ≡ file.old.journal.sync }
         ensures cause { IfErr result (RunsUnlessDisk D.disk) }
-        ensures done { OnOk result ((first : AnyConsole) (before : List (Turn (RefusalCause D.disk))) (old : Option (List ℕ)) (judged : List ℕ)
-            → line_class line.now ≡ line_class judged
-            → IsAfterLines (KeepsConsole D.disk file.old) every first before old (W.contents writer.old) self.old.console
-            (string_bytes self.old.held) self.old.recorded
-            → (refused : Option (RefusalCause D.disk))
-            × IsAfterLines (KeepsConsole D.disk file.new) every first (before ++ turn_of judged refused ∷ []) old (W.contents writer.new) self.new.console
-            (string_bytes self.new.held) self.new.recorded) }
-        ensures fault { IfErr result (λ e. (first : AnyConsole) (before : List (Turn (RefusalCause D.disk))) (old : Option (List ℕ)) (judged : List ℕ)
-            → line_class line.now ≡ line_class judged
-            → IsAfterLines (KeepsConsole D.disk file.old) every first before old (W.contents writer.old) self.old.console
-            (string_bytes self.old.held) self.old.recorded
-            → FailsAfter D.disk file.old file.new
-            every first (before ++ made_turn judged ∷ []) old (W.contents writer.new) e) }
-        ensures any_moment { IsTrue D.disk.is_honest → (first : AnyConsole) (before : List (Turn (RefusalCause D.disk))) (old : Option (List ℕ)) (judged : List ℕ)
-            → line_class line.now ≡ line_class judged
-            → IsAfterLines (KeepsConsole D.disk file.old) every first before old (W.contents writer.old) self.old.console
-            (string_bytes self.old.held) self.old.recorded
-            → LeavesOnly D.disk file.old.journal.device file.new.journal.device
-            (CoversAnswers file.old.journal.sync D.disk.fills_with_zeros every first (before ++ made_turn judged ∷ []) []) }
+        ensures done { OnOk result (AnswersLine D.disk every line.now (run_at file.old self.old (W.contents writer.old))
+            (run_at file.new self.new (W.contents writer.new))) }
+        ensures fault { IfErr result (FailsAtLine D.disk every line.now (run_at file.old self.old (W.contents writer.old))
+            file.new (W.contents writer.new)) }
+        ensures any_moment { LineLeaves D.disk every line.now (run_at file.old self.old (W.contents writer.old)) file.new }
         ensures read { IfErr result (λ e. e ≢ DurableFault.Run RunFault.Read) }
     {
         match self.take_line(rt, alloc, every, line, file) {

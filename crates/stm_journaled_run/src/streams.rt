@@ -1,7 +1,7 @@
 //! From the bytes of a reader to the bytes of a writer, with the events in a file.
 
-ghost use Rattle.std.specs.Prelude.{◌≡◌, ◌≢◌, ◌++◌, ◌+◌, ◌<◌, ◌≤◌, [], true, ℕ, List, Option, Some, Ok, IsTrue, length, string_bytes, MatchBool, OnOk, OnErr, IfOk, IfErr, IfSome, IsErrOf};
-ghost use Rattle.std.specs.Io.KnownBytes.{Appends, prepend_known};
+ghost use Rattle.std.specs.Prelude.{◌≡◌, ◌≢◌, ◌++◌, ◌+◌, ◌<◌, ◌≤◌, [], true, ℕ, List, Some, Ok, IsTrue, length, string_bytes, OnOk, OnErr, IfOk, IfErr, IfSome, IsErrOf};
+ghost use Rattle.std.specs.Io.KnownBytes.{Appends};
 ghost use Rattle.stm_terms.specs.Texts.{IsPrefixOf};
 ghost use Rattle.stm_events.specs.Laws.{SubmittedAreWellTyped};
 ghost use Rattle.stm_history.specs.Loading.{HasText, loaded_start};
@@ -9,17 +9,16 @@ ghost use Rattle.stm_events.specs.SlowDesk.{state_from};
 ghost use Rattle.stm_events.specs.States.{IsLegalFrom};
 ghost use Rattle.stm_machine.specs.Checkpoints.{MayStart, start_of};
 ghost use Rattle.stm_machine.specs.Machine.{IsAt};
-ghost use Rattle.stm_journal.specs.Disk.{LeavesOnly};
 ghost use Rattle.stm_history_file.specs.Durable.{HasLoaded, IsFormatOf};
 ghost use Rattle.stm_lines.specs.Lines.{lines_of, whole_lines_of};
 ghost use Rattle.stm_lines.specs.TakenLines.{bytes_to_come};
 ghost use Rattle.stm_options.specs.Options.{AreRunOptions};
-ghost use Rattle.stm_run.specs.declared.console.Console.{Console as AnyConsole};
 ghost use Rattle.stm_run.specs.ConsoleState.{events_of};
 ghost use Rattle.stm_run.specs.LineCheckpoints.{ForTurns};
-ghost use Rattle.stm_journaled_run.specs.DurableRun.{RunsUnlessDisk, RefusalCause, resumed_console, KeepsConsole, IsNoJournalFault};
-ghost use Rattle.stm_journaled_run.specs.Committing.{HasCome, HasComeToEnd, HasFinished, FailsOver, LeavesRun, WholeLinesAnswered, run_answers, AnswersAllLines, KeepsAnswered, CoversWritten, RunLeaves};
-ghost use Rattle.stm_journaled_run.specs.NewEvents.{MayBeginRun};
+ghost use Rattle.stm_run.specs.Streaming.{unread};
+ghost use Rattle.stm_journaled_run.specs.DurableRun.{RunsUnlessDisk, RefusalCause, resumed_console, IsNoJournalFault};
+ghost use Rattle.stm_journaled_run.specs.Committing.{FailsOver, WholeLinesAnswered, run_answers, AnswersAllLines, KeepsAnswered, CoversWritten, RunLeaves};
+ghost use Rattle.stm_journaled_run.specs.GoingOn.{AnswersNext, FailsAfterLines, FailsUnderWay, FinishesOver, InputLeaves, IsBetweenLines, IsFresh, IsUnderWay, LinesLeave, NextLeaves, StaysAfterLines, WritesWhole, run_at};
 
 use crate::fault::DurableFault;
 use crate::resuming::resumed_console;
@@ -50,26 +49,15 @@ fn commit_before_read<W: Write, D: Replace + Drop>(
     writer: &mut W,
     file: &mut HistoryFile<D>,
 ) -> Result<(), DurableFault>
-    requires { (every : ℕ) × (first : AnyConsole) × (input rest old : Option (List ℕ))
-        × HasCome (RefusalCause D.disk) (KeepsConsole D.disk file.old) every first input rest old (W.contents writer.old)
-        session.old.console (string_bytes session.old.held) session.old.recorded }
+    requires { (every : ℕ) × IsBetweenLines D.disk every (run_at file.old session.old (W.contents writer.old)) }
     ensures tries { session.new.tries_from ≡ session.old.tries_from }
     ensures sync { file.new.journal.sync ≡ file.old.journal.sync }
     ensures cause { IfErr result (RunsUnlessDisk D.disk) }
-    ensures done { OnOk result ((every : ℕ) (first : AnyConsole) (input rest old : Option (List ℕ))
-        → HasCome (RefusalCause D.disk) (KeepsConsole D.disk file.old) every first input rest old (W.contents writer.old)
-        session.old.console (string_bytes session.old.held) session.old.recorded
-        → HasCome (RefusalCause D.disk) (KeepsConsole D.disk file.new) every first input rest old (W.contents writer.new)
-        session.new.console (string_bytes session.new.held) session.new.recorded) }
-    ensures fault { IfErr result (λ e. (every : ℕ) (first : AnyConsole) (input rest old : Option (List ℕ))
-        → HasCome (RefusalCause D.disk) (KeepsConsole D.disk file.old) every first input rest old (W.contents writer.old)
-        session.old.console (string_bytes session.old.held) session.old.recorded
-        → FailsOver D.disk file.old file.new every first input old (W.contents writer.new) e) }
-    ensures any_moment { IsTrue D.disk.is_honest → (every : ℕ) (first : AnyConsole) (input rest old : Option (List ℕ))
-        → HasCome (RefusalCause D.disk) (KeepsConsole D.disk file.old) every first input rest old (W.contents writer.old)
-        session.old.console (string_bytes session.old.held) session.old.recorded
-        → LeavesOnly D.disk file.old.journal.device file.new.journal.device
-        (LeavesRun (RefusalCause D.disk) file.old.journal.sync D.disk.fills_with_zeros every first input) }
+    ensures done { OnOk result (StaysAfterLines D.disk (run_at file.old session.old (W.contents writer.old))
+        (run_at file.new session.new (W.contents writer.new))) }
+    ensures fault { IfErr result (FailsAfterLines D.disk (run_at file.old session.old (W.contents writer.old))
+        file.new (W.contents writer.new)) }
+    ensures any_moment { LinesLeave D.disk (run_at file.old session.old (W.contents writer.old)) file.new }
     ensures read { IfErr result (λ e. e ≢ DurableFault.Run RunFault.Read) }
 {
     if lines.is_buffered() {
@@ -91,39 +79,22 @@ fn answer_next<T: Threads + Sync, R: Read, W: Write, D: Replace + Drop, L: Ledge
     writer: &mut W,
     file: &mut HistoryFile<D>,
 ) -> Result<bool, DurableFault>
-    requires come { (first : AnyConsole) × (input old : Option (List ℕ))
-        × HasCome (RefusalCause D.disk) (KeepsConsole D.disk file.old) every first input (prepend_known lines.old.chunk (R.remaining calls.old.reader.now)) old (W.contents writer.old)
-        session.old.console (string_bytes session.old.held) session.old.recorded }
+    requires come { IsUnderWay D.disk every (unread R.remaining lines.old calls.old) (run_at file.old session.old (W.contents writer.old)) }
     requires because { 0 < session.old.tries_from → RefusalCause D.disk }
     ensures because { 0 < session.new.tries_from → RefusalCause D.disk }
     ensures same_reader { calls.new.reader.ghost_name ≡ calls.old.reader.ghost_name }
     ensures same_steps { calls.new.steps.ghost_name ≡ calls.old.steps.ghost_name }
-    ensures shorter { result ≡ Ok true →
-        bytes_to_come calls.new.left lines.new.chunk
-        < bytes_to_come calls.old.left lines.old.chunk }
+    ensures shorter { result ≡ Ok true → bytes_to_come calls.new.left lines.new.chunk < bytes_to_come calls.old.left lines.old.chunk }
     ensures sync { file.new.journal.sync ≡ file.old.journal.sync }
     ensures cause { IfErr result (RunsUnlessDisk D.disk) }
-    ensures done { IfOk result (λ more. (first : AnyConsole) (input old : Option (List ℕ))
-        → HasCome (RefusalCause D.disk) (KeepsConsole D.disk file.old) every first input (prepend_known lines.old.chunk (R.remaining calls.old.reader.now)) old (W.contents writer.old)
-        session.old.console (string_bytes session.old.held) session.old.recorded
-        → MatchBool more
-        (HasCome (RefusalCause D.disk) (KeepsConsole D.disk file.new) every first input (prepend_known lines.new.chunk (R.remaining calls.new.reader.now)) old (W.contents writer.new)
-        session.new.console (string_bytes session.new.held) session.new.recorded)
-        (HasComeToEnd (RefusalCause D.disk) (KeepsConsole D.disk file.new) every first input old (W.contents writer.new)
-        session.new.console (string_bytes session.new.held) session.new.recorded)) }
-    ensures fault { IfErr result (λ e. (first : AnyConsole) (input old : Option (List ℕ))
-        → HasCome (RefusalCause D.disk) (KeepsConsole D.disk file.old) every first input (prepend_known lines.old.chunk (R.remaining calls.old.reader.now)) old (W.contents writer.old)
-        session.old.console (string_bytes session.old.held) session.old.recorded
-        → FailsOver D.disk file.old file.new every first input old (W.contents writer.new) e) }
-    ensures read_fault { IsErrOf result (DurableFault.Run RunFault.Read) → (first : AnyConsole) (input old : Option (List ℕ))
-        → HasCome (RefusalCause D.disk) (KeepsConsole D.disk file.old) every first input (prepend_known lines.old.chunk (R.remaining calls.old.reader.now)) old (W.contents writer.old)
-        session.old.console (string_bytes session.old.held) session.old.recorded
-        → WholeLinesAnswered (RefusalCause D.disk) every first input (R.remaining calls.new.reader.now) old (W.contents writer.new) }
-    ensures any_moment { IsTrue D.disk.is_honest → (first : AnyConsole) (input old : Option (List ℕ))
-        → HasCome (RefusalCause D.disk) (KeepsConsole D.disk file.old) every first input (prepend_known lines.old.chunk (R.remaining calls.old.reader.now)) old (W.contents writer.old)
-        session.old.console (string_bytes session.old.held) session.old.recorded
-        → LeavesOnly D.disk file.old.journal.device file.new.journal.device
-        (LeavesRun (RefusalCause D.disk) file.old.journal.sync D.disk.fills_with_zeros every first input) }
+    ensures done { IfOk result (AnswersNext D.disk every (unread R.remaining lines.old calls.old) (unread R.remaining lines.new calls.new)
+        (run_at file.old session.old (W.contents writer.old)) (run_at file.new session.new (W.contents writer.new))) }
+    ensures fault { IfErr result (FailsUnderWay D.disk every (unread R.remaining lines.old calls.old)
+        (run_at file.old session.old (W.contents writer.old)) file.new (W.contents writer.new)) }
+    ensures read_fault { IsErrOf result (DurableFault.Run RunFault.Read) → WritesWhole D.disk every (unread R.remaining lines.old calls.old)
+        (run_at file.old session.old (W.contents writer.old)) (R.remaining calls.new.reader.now) (W.contents writer.new) }
+    ensures any_moment { NextLeaves D.disk every (unread R.remaining lines.old calls.old)
+        (run_at file.old session.old (W.contents writer.old)) file.new }
 {
     match next_command_line(lines, calls) {
         Ok(CommandLine::Whole) => {
@@ -159,25 +130,18 @@ fn run_session<T: Threads + Sync, R: Read, W: Write, D: Replace + Drop, L: Ledge
     file: &mut HistoryFile<D>,
 ) -> Result<(), DurableFault>
     requires chunk { lines.old.chunk ≡ [] }
-    requires may_begin { MayBeginRun session.old.console }
-    requires held { string_bytes session.old.held ≡ [] }
-    requires recorded { session.old.recorded ≡ length (events_of session.old.console) }
-    requires tries { session.old.tries_from ≡ 0 }
-    requires kept { KeepsConsole D.disk file.old session.old.console }
+    requires fresh { IsFresh D.disk file.old session.old }
     ensures same_reader { calls.new.reader.ghost_name ≡ calls.old.reader.ghost_name }
     ensures same_steps { calls.new.steps.ghost_name ≡ calls.old.steps.ghost_name }
     ensures sync { file.new.journal.sync ≡ file.old.journal.sync }
     ensures cause { IfErr result (RunsUnlessDisk D.disk) }
-    ensures done { OnOk result (IfSome (R.remaining calls.old.reader.now) (λ bytes. ForTurns (RefusalCause D.disk) (lines_of bytes) (λ turns. HasFinished (KeepsConsole D.disk file.new)
-        every session.old.console turns (W.contents writer.old) (W.contents writer.new)))) }
+    ensures done { OnOk result (FinishesOver D.disk file.new every session.old.console (R.remaining calls.old.reader.now)
+        (W.contents writer.old) (W.contents writer.new)) }
     ensures fault { IfErr result (FailsOver D.disk file.old file.new every session.old.console (R.remaining calls.old.reader.now)
         (W.contents writer.old) (W.contents writer.new)) }
-    ensures read_fault { IsErrOf result (DurableFault.Run RunFault.Read)
-        → WholeLinesAnswered (RefusalCause D.disk) every session.old.console (R.remaining calls.old.reader.now) (R.remaining calls.new.reader.now)
-        (W.contents writer.old) (W.contents writer.new) }
-    ensures any_moment { IsTrue D.disk.is_honest
-        → LeavesOnly D.disk file.old.journal.device file.new.journal.device
-        (LeavesRun (RefusalCause D.disk) file.old.journal.sync D.disk.fills_with_zeros every session.old.console (R.remaining calls.old.reader.now)) }
+    ensures read_fault { IsErrOf result (DurableFault.Run RunFault.Read) → WholeLinesAnswered (RefusalCause D.disk) every session.old.console
+        (R.remaining calls.old.reader.now) (R.remaining calls.new.reader.now) (W.contents writer.old) (W.contents writer.new) }
+    ensures any_moment { InputLeaves D.disk file.old file.new every session.old.console (R.remaining calls.old.reader.now) }
 {
     'lines: loop {
         commit_before_read(alloc, session, lines, writer, file)?;
@@ -235,26 +199,19 @@ fn run_begun<T: Threads + Sync, R: Read, W: Write, D: Replace + Drop, L: Ledger>
     file: &mut HistoryFile<D>,
     blank: Blank,
 ) -> Result<(), DurableFault>
-    requires may_begin { MayBeginRun session.old.console }
-    requires held { string_bytes session.old.held ≡ [] }
-    requires recorded { session.old.recorded ≡ length (events_of session.old.console) }
-    requires tries { session.old.tries_from ≡ 0 }
-    requires kept { KeepsConsole D.disk file.old session.old.console }
+    requires fresh { IsFresh D.disk file.old session.old }
     requires name { blank.name ≡ L.name }
     requires parts { blank.parts ≡ L.parts }
     requires some { 0 < blank.parts }
     ensures sync { file.new.journal.sync ≡ file.old.journal.sync }
     ensures cause { IfErr result (RunsUnlessDisk D.disk) }
-    ensures done { OnOk result (IfSome (R.remaining reader.old) (λ bytes. ForTurns (RefusalCause D.disk) (lines_of bytes) (λ turns. HasFinished (KeepsConsole D.disk file.new)
-        every session.old.console turns (W.contents writer.old) (W.contents writer.new)))) }
+    ensures done { OnOk result (FinishesOver D.disk file.new every session.old.console (R.remaining reader.old)
+        (W.contents writer.old) (W.contents writer.new)) }
     ensures fault { IfErr result (FailsOver D.disk file.old file.new every session.old.console (R.remaining reader.old)
         (W.contents writer.old) (W.contents writer.new)) }
-    ensures read_fault { IsErrOf result (DurableFault.Run RunFault.Read)
-        → WholeLinesAnswered (RefusalCause D.disk) every session.old.console (R.remaining reader.old) (R.remaining reader.new)
-        (W.contents writer.old) (W.contents writer.new) }
-    ensures any_moment { IsTrue D.disk.is_honest
-        → LeavesOnly D.disk file.old.journal.device file.new.journal.device
-        (LeavesRun (RefusalCause D.disk) file.old.journal.sync D.disk.fills_with_zeros every session.old.console (R.remaining reader.old)) }
+    ensures read_fault { IsErrOf result (DurableFault.Run RunFault.Read) → WholeLinesAnswered (RefusalCause D.disk) every session.old.console
+        (R.remaining reader.old) (R.remaining reader.new) (W.contents writer.old) (W.contents writer.new) }
+    ensures any_moment { InputLeaves D.disk file.old file.new every session.old.console (R.remaining reader.old) }
 {
     let mut steps = Steps::<L>::new(blank);
     let mut lines = LineReader::new(alloc);

@@ -1,5 +1,7 @@
 -- What the code's replies are to the definitions.
-use Rattle.std.specs.Prelude.{◌≡◌, ℕ, true, List, [], ◌++◌}
+use Rattle.std.specs.Prelude.{◌≡◌, ℕ, Bool, true, false, not, List, [], ◌++◌}
+use Rattle.stm_run.specs.declared.command.Command.{Command}
+use Rattle.stm_run.specs.declared.command.Command.TheVariants.{Tvar, Try, Looks, Show, Reads, Store, History, Ready, Why, Events, Checkpoint, Block, Board}
 use Rattle.stm_run.specs.declared.console.Console.{Console}
 use Rattle.stm_run.specs.declared.console.Console.TheVariants.{Declaring, Open}
 use Rattle.stm_run.specs.Console.{on_console}
@@ -9,6 +11,27 @@ use Rattle.stm_run.specs.declared.reply.Reply.TheVariants as reply
 use Rattle.stm_commands.specs.Checkpointing.{bare_checkpoint_step}
 use Rattle.stm_commands.specs.Questions.{later_events_text}
 use Rattle.stm_commands.specs.Contents.{events_text}
+
+-- a command that leaves the open desk as it is, and whose answer is appended
+abbrev pub is_question : Command → Bool
+is_question Tvar = true
+is_question Try = true
+is_question Looks = true
+is_question Show = true
+is_question Reads = true
+is_question Store = true
+is_question Ready = true
+is_question Why = true
+is_question Block = true
+is_question Board = true
+is_question command = false
+
+-- a command that may change the open desk, and whose answer is appended
+abbrev pub is_change : Command → Bool
+is_change Checkpoint = false
+is_change History = false
+is_change Events = false
+is_change command = not (is_question command)
 
 -- the text of the history, once the desk is open
 abbrev pub history_of : Console → List ℕ

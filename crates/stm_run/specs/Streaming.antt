@@ -1,9 +1,12 @@
 -- What a run keeps while it takes its input line by line.
-use Rattle.std.specs.Prelude.{◌≡◌, ℕ, List, ◌++◌, Option, Some, IfSome}
-use Rattle.std.specs.Io.KnownBytes.{Appends, Consumes}
+use Rattle.std.specs.Prelude.{◌≡◌, ℕ, Bool, List, ◌++◌, Option, Some, IfSome, MatchBool}
+use Rattle.std.specs.Io.KnownBytes.{Appends, Consumes, prepend_known}
 use Rattle.stm_terms.specs.Texts.{IsPrefixOf}
+use Rattle.stm_lines.specs.declared.calls.Calls.{Calls}
+use Rattle.stm_lines.specs.declared.line_reader.LineReader.{LineReader}
 use Rattle.stm_lines.specs.Lines.{lines_of, whole_lines_of}
 use Rattle.stm_run.specs.declared.console.Console.{Console}
+use Rattle.stm_run.specs.declared.session.Session.{Session}
 use Rattle.stm_run.specs.Console.{answers_to}
 
 -- what is written for the bytes that follow
@@ -19,24 +22,46 @@ pub record Continues (s t : Console) (taken written : List ℕ) : Type 0 where
   pub all : (more : List ℕ) → rest_text s (taken ++ more) ≡ written ++ rest_text t more
   pub whole : (more : List ℕ) → whole_rest_text s (taken ++ more) ≡ written ++ whole_rest_text t more
 
+-- ---- how far a run is
+-- what the console is, what is still to be read, and what was written; the last two if they are known
+pub record RunState : Type 0 where
+  pub console : Console
+  pub rest : Option (List ℕ)
+  pub written : Option (List ℕ)
+
+-- with the console of a session
+abbrev pub run_state : Session → Option (List ℕ) → Option (List ℕ) → RunState
+run_state session rest written = record { console = session.console; rest = rest; written = written }
+
+-- what is still to be read: the bytes that a line reader holds, and what remains in the reader that it calls
+abbrev pub unread : {R L : Type 0} → (R → Option (List ℕ)) → LineReader → Calls R L → Option (List ℕ)
+unread remaining lines calls = prepend_known lines.chunk (remaining calls.reader.now)
+
+-- ---- how it goes on
 -- lines of the input were taken, and their answers written
-pub record HasAnswered (s t : Console) (input rest old new : Option (List ℕ)) : Type 0 where
+pub record HasAnswered (earlier later : RunState) : Type 0 where
   pub taken : List ℕ
   pub written : List ℕ
-  pub consumed : Consumes input rest taken
-  pub continues : Continues s t taken written
-  pub appended : Appends old new written
+  pub consumed : Consumes earlier.rest later.rest taken
+  pub continues : Continues earlier.console later.console taken written
+  pub appended : Appends earlier.written later.written written
 
 -- the whole text was written
-abbrev pub HasAnsweredAll : Console → Option (List ℕ) → Option (List ℕ) → Option (List ℕ) → Type 0
-HasAnsweredAll s input old new = IfSome input (λ bytes. Appends old new (rest_text s bytes))
+abbrev pub HasAnsweredAll : RunState → Option (List ℕ) → Type 0
+HasAnsweredAll earlier written = IfSome earlier.rest (λ input. Appends earlier.written written (rest_text earlier.console input))
 
--- a front of it was written
-abbrev pub HasAnsweredPart : Console → Option (List ℕ) → Option (List ℕ) → Option (List ℕ) → Type 0
-HasAnsweredPart s input old new =
-    IfSome input (λ bytes. (front : List ℕ) × IsPrefixOf front (rest_text s bytes) × Appends old new front)
+-- the next line was answered, and more may follow; or if not, the whole text was written
+abbrev pub HasAnsweredNext : RunState → RunState → Bool → Type 0
+HasAnsweredNext earlier later more = MatchBool more (HasAnswered earlier later) (HasAnsweredAll earlier later.written)
 
--- the text of the lines that were whole in what was taken was written
-abbrev pub HasAnsweredWhole : Console → Option (List ℕ) → Option (List ℕ) → Option (List ℕ) → Option (List ℕ) → Type 0
-HasAnsweredWhole s input left old new =
-    IfSome input (λ bytes. (taken rest : List ℕ) × (bytes ≡ taken ++ rest) × (left ≡ Some rest) × Appends old new (whole_rest_text s taken))
+-- a front of the text was written
+abbrev pub HasAnsweredPart : RunState → Option (List ℕ) → Type 0
+HasAnsweredPart earlier written =
+    IfSome earlier.rest (λ input. (front : List ℕ) × IsPrefixOf front (rest_text earlier.console input)
+    × Appends earlier.written written front)
+
+-- the text of the lines that were whole in what was taken was written, and this is left
+abbrev pub HasAnsweredWhole : RunState → Option (List ℕ) → Option (List ℕ) → Type 0
+HasAnsweredWhole earlier left written =
+    IfSome earlier.rest (λ input. (taken rest : List ℕ) × (input ≡ taken ++ rest) × (left ≡ Some rest)
+    × Appends earlier.written written (whole_rest_text earlier.console taken))

@@ -33,6 +33,29 @@ pub enum Command {
     Board,
 }
 
+impl Command {
+    ghost use Rattle.stm_run.specs.Abstraction.{is_question};
+
+    /// Whether the command leaves the desk as it is, and its answer is appended.
+    pub(crate) fn is_question(self) -> bool
+        ensures { result ≡ is_question self }
+    {
+        matches!(
+            self,
+            Command::Tvar
+                | Command::Try
+                | Command::Looks
+                | Command::Show
+                | Command::Reads
+                | Command::Store
+                | Command::Ready
+                | Command::Why
+                | Command::Block
+                | Command::Board
+        )
+    }
+}
+
 // The command of a word, of the first seven.
 fn of_first_seven(word: &[u8]) -> Option<Command>
     ensures { result ≡ command_in (take 7 command_words) word.now }

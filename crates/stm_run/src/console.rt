@@ -3,10 +3,9 @@
 ghost use Rattle.std.specs.Prelude.{◌≡◌, ◌++◌, [], true, false, not, length, Some, is_some, string_bytes, OnOk, OnErr, IfOk, IfSome};
 ghost use Rattle.stm_history_text.specs.HistoryText.{WritesText};
 ghost use Rattle.stm_commands.specs.Contents.{history_answer};
-ghost use Rattle.stm_commands.specs.Labelling.{label_step, block_answer, board_answer};
 ghost use Rattle.stm_commands.specs.OpenDesk.{Steps};
 ghost use Rattle.stm_commands.specs.Questions.{events_answer};
-ghost use Rattle.stm_run.specs.Abstraction.{IsReply, IsStep, history_of, later_events_of};
+ghost use Rattle.stm_run.specs.Abstraction.{IsReply, IsStep, history_of, is_change, is_question, later_events_of};
 ghost use Rattle.stm_run.specs.Console.{initial_console, command_named, desk_step, on_console, word_step, step};
 ghost use Rattle.stm_machine.specs.Checkpoints.{MayStart};
 ghost use Rattle.stm_desk.specs.Checkpointed.{checkpoint_now};
@@ -91,37 +90,58 @@ fn answer_checkpoint(desk: &OpenDesk, argument: &str, out: &mut String) -> Resul
     refuse_argument(out).and(Ok(Reply::Text))
 }
 
-/// Answers `label`.
-fn answer_label(desk: &mut OpenDesk, argument: &str, out: &mut String) -> Result<Reply, NoMemory>
-    ensures step { IfOk result (λ r. IsStep r (string_bytes out.old) (string_bytes out.new)
-        (IsOpen desk.new) (on_console (label_step desk.old argument.now))) }
-    ensures asked { IfOk result (λ r. asks_checkpoint r ≡ false) }
-    ensures made { IfOk result (λ r. reply_checkpoints desk.old r ≡ false) }
-    ensures streamed { IfOk result (λ r. is_streamed r ≡ false) }
+/// Appends the answer to a command that leaves the desk as it is.
+fn append_question(
+    desk: &mut OpenDesk,
+    alloc: Global,
+    command: Command,
+    argument: &str,
+    out: &mut String,
+) -> Result<(), NoMemory>
+    requires { is_question command ≡ true }
+    ensures { OnOk result (Steps desk.new (string_bytes out.old) (string_bytes out.new) (desk_step desk.old command argument.now)) }
 {
-    desk.answer_label(argument, out).and(Ok(Reply::Text))
+    match command {
+        Command::Tvar => refuse("Late", out),
+        Command::Try => desk.answer_try(alloc, argument, out),
+        Command::Looks => desk.answer_looks(alloc, argument, out),
+        Command::Show => desk.answer_show(argument, out),
+        Command::Reads => desk.answer_reads(argument, out),
+        Command::Store => desk.answer_store(argument, out),
+        Command::Ready => desk.answer_ready(argument, out),
+        Command::Why => desk.answer_why(alloc, argument, out),
+        Command::Block => desk.answer_block(argument, out),
+        Command::Board => desk.answer_board(argument, out),
+        _ => unreachable!(),
+    }
 }
 
-/// Answers `block`.
-fn answer_block(desk: &OpenDesk, argument: &str, out: &mut String) -> Result<Reply, NoMemory>
-    ensures reply { IfOk result (λ r. IsReply r (string_bytes out.old) (string_bytes out.new)
-        (IsOpen desk.now) (block_answer desk.now argument.now)) }
-    ensures asked { IfOk result (λ r. asks_checkpoint r ≡ false) }
-    ensures made { IfOk result (λ r. reply_checkpoints desk.now r ≡ false) }
-    ensures streamed { IfOk result (λ r. is_streamed r ≡ false) }
+/// Appends the answer to a command that may change the desk, other than `checkpoint`, and starts no thread.
+fn append_change_here(
+    desk: &mut OpenDesk,
+    alloc: Global,
+    command: Command,
+    argument: &str,
+    out: &mut String,
+) -> Result<(), NoMemory>
+    requires { is_change command ≡ true }
+    ensures { OnOk result (Steps desk.new (string_bytes out.old) (string_bytes out.new) (desk_step desk.old command argument.now)) }
 {
-    desk.answer_block(argument, out).and(Ok(Reply::Text))
-}
-
-/// Answers `board`.
-fn answer_board(desk: &OpenDesk, argument: &str, out: &mut String) -> Result<Reply, NoMemory>
-    ensures reply { IfOk result (λ r. IsReply r (string_bytes out.old) (string_bytes out.new)
-        (IsOpen desk.now) (board_answer desk.now argument.now)) }
-    ensures asked { IfOk result (λ r. asks_checkpoint r ≡ false) }
-    ensures made { IfOk result (λ r. reply_checkpoints desk.now r ≡ false) }
-    ensures streamed { IfOk result (λ r. is_streamed r ≡ false) }
-{
-    desk.answer_board(argument, out).and(Ok(Reply::Text))
+    match command {
+        Command::Declare => desk.answer_declare(alloc, argument, out),
+        Command::Submit => desk.answer_submit(alloc, argument, out),
+        Command::Atomically => desk.answer_atomically(alloc, argument, out),
+        Command::Take => desk.answer_take(alloc, argument, out),
+        Command::Deliver => desk.answer_deliver(alloc, argument, out),
+        Command::Handback => desk.answer_handback(argument, out),
+        Command::Eval => desk.answer_eval_here(argument, out),
+        Command::Finish => desk.answer_finish(argument, out),
+        Command::Cancel => desk.answer_cancel(argument, out),
+        Command::Settle => desk.answer_settle(argument, out),
+        Command::Drain => desk.answer_drain(argument, out),
+        Command::Label => desk.answer_label(argument, out),
+        _ => unreachable!(),
+    }
 }
 
 /// Answers a command on the open desk, and starts no thread.
@@ -140,34 +160,15 @@ fn answer_on_desk_here(
     ensures streamed { IfOk result (λ r. is_streamed r ≡ true
         → desk.new.desk.history ≡ desk.old.desk.history) }
 {
-    let done = match command {
-        Command::Checkpoint => return answer_checkpoint(desk, argument, out),
-        Command::History => return answer_history(desk, argument, out),
-        Command::Events => return answer_events(desk, argument, out),
-        Command::Label => return answer_label(desk, argument, out),
-        Command::Block => return answer_block(desk, argument, out),
-        Command::Board => return answer_board(desk, argument, out),
-        Command::Tvar => refuse("Late", out),
-        Command::Declare => desk.answer_declare(alloc, argument, out),
-        Command::Try => desk.answer_try(alloc, argument, out),
-        Command::Looks => desk.answer_looks(alloc, argument, out),
-        Command::Submit => desk.answer_submit(alloc, argument, out),
-        Command::Atomically => desk.answer_atomically(alloc, argument, out),
-        Command::Take => desk.answer_take(alloc, argument, out),
-        Command::Deliver => desk.answer_deliver(alloc, argument, out),
-        Command::Handback => desk.answer_handback(argument, out),
-        Command::Eval => desk.answer_eval_here(argument, out),
-        Command::Finish => desk.answer_finish(argument, out),
-        Command::Cancel => desk.answer_cancel(argument, out),
-        Command::Show => desk.answer_show(argument, out),
-        Command::Reads => desk.answer_reads(argument, out),
-        Command::Store => desk.answer_store(argument, out),
-        Command::Settle => desk.answer_settle(argument, out),
-        Command::Drain => desk.answer_drain(argument, out),
-        Command::Ready => desk.answer_ready(argument, out),
-        Command::Why => desk.answer_why(alloc, argument, out),
-    };
-    done.and(Ok(Reply::Text))
+    match command {
+        Command::Checkpoint => answer_checkpoint(desk, argument, out),
+        Command::History => answer_history(desk, argument, out),
+        Command::Events => answer_events(desk, argument, out),
+        _ if command.is_question() => append_question(desk, alloc, command, argument, out).and(Ok(
+            Reply::Text,
+        )),
+        _ => append_change_here(desk, alloc, command, argument, out).and(Ok(Reply::Text)),
+    }
 }
 
 /// Answers a command on the open desk. Only `eval` may start threads.

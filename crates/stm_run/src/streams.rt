@@ -1,11 +1,11 @@
 //! From the bytes of a reader to the bytes of a writer.
 
-ghost use Rattle.std.specs.Prelude.{◌≡◌, ◌≢◌, ◌+◌, ◌<◌, ◌≤◌, [], ◌++◌, true, ℕ, List, IfErr, IfOk, MatchBool, Ok, OnOk, OnErr, IfSome, IsErrOf, Some};
-ghost use Rattle.std.specs.Io.KnownBytes.{Appends, Keeps, prepend_known};
+ghost use Rattle.std.specs.Prelude.{◌≡◌, ◌≢◌, ◌+◌, ◌<◌, ◌≤◌, [], ◌++◌, true, ℕ, List, IfErr, IfOk, Ok, OnOk, OnErr, IfSome, IsErrOf, Some};
+ghost use Rattle.std.specs.Io.KnownBytes.{Appends, Keeps};
 ghost use Rattle.stm_terms.specs.Texts.{IsPrefixOf};
 ghost use Rattle.stm_run.specs.Console.{console_text, whole_lines_text};
 ghost use Rattle.stm_options.specs.Options.{AreRunOptions};
-ghost use Rattle.stm_run.specs.Streaming.{HasAnswered, HasAnsweredAll, HasAnsweredPart, HasAnsweredWhole};
+ghost use Rattle.stm_run.specs.Streaming.{HasAnsweredAll, HasAnsweredNext, HasAnsweredPart, HasAnsweredWhole, run_state, unread};
 ghost use Rattle.stm_lines.specs.TakenLines.{bytes_to_come};
 
 use crate::limit::EventLimit;
@@ -48,25 +48,16 @@ fn answer_next<T: Threads + Sync, R: Read, W: Write, L: Ledger>(
 ) -> Result<bool, RunFault>
     ensures same_reader { calls.new.reader.ghost_name ≡ calls.old.reader.ghost_name }
     ensures same_steps { calls.new.steps.ghost_name ≡ calls.old.steps.ghost_name }
-    ensures counted { calls.new.steps.now + calls.new.left
-        ≡ calls.old.steps.now + calls.old.left }
-    ensures shorter { result ≡ Ok true →
-        bytes_to_come calls.new.left lines.new.chunk
-        < bytes_to_come calls.old.left lines.old.chunk }
-    ensures answered { IfOk result (λ more. MatchBool more
-        (HasAnswered session.old.console session.new.console
-        (prepend_known lines.old.chunk (R.remaining calls.old.reader.now))
-        (prepend_known lines.new.chunk (R.remaining calls.new.reader.now))
-        (W.contents writer.old) (W.contents writer.new))
-        (HasAnsweredAll session.old.console
-        (prepend_known lines.old.chunk (R.remaining calls.old.reader.now))
-        (W.contents writer.old) (W.contents writer.new))) }
-    ensures read_fault { IsErrOf result RunFault.Read → HasAnsweredWhole session.old.console
-        (prepend_known lines.old.chunk (R.remaining calls.old.reader.now))
-        (R.remaining calls.new.reader.now) (W.contents writer.old) (W.contents writer.new) }
-    ensures part { OnErr result (HasAnsweredPart session.old.console
-        (prepend_known lines.old.chunk (R.remaining calls.old.reader.now))
-        (W.contents writer.old) (W.contents writer.new)) }
+    ensures counted { calls.new.steps.now + calls.new.left ≡ calls.old.steps.now + calls.old.left }
+    ensures shorter { result ≡ Ok true → bytes_to_come calls.new.left lines.new.chunk < bytes_to_come calls.old.left lines.old.chunk }
+    ensures answered { IfOk result (HasAnsweredNext (run_state session.old (unread R.remaining lines.old calls.old) (W.contents writer.old))
+        (run_state session.new (unread R.remaining lines.new calls.new) (W.contents writer.new))) }
+    // After a read fault all lines that were whole before it have been answered.
+    ensures read_fault { IsErrOf result RunFault.Read
+        → HasAnsweredWhole (run_state session.old (unread R.remaining lines.old calls.old) (W.contents writer.old))
+        (R.remaining calls.new.reader.now) (W.contents writer.new) }
+    ensures part { OnErr result
+        (HasAnsweredPart (run_state session.old (unread R.remaining lines.old calls.old) (W.contents writer.old)) (W.contents writer.new)) }
 {
     match next_command_line(lines, calls) {
         Ok(CommandLine::Whole) => {
@@ -100,18 +91,17 @@ fn run_session<T: Threads + Sync, R: Read, W: Write, L: Ledger>(
     ensures same_reader { calls.new.reader.ghost_name ≡ calls.old.reader.ghost_name }
     ensures same_steps { calls.new.steps.ghost_name ≡ calls.old.steps.ghost_name }
     // Each call that is used up was counted.
-    ensures counted { calls.new.steps.now + calls.new.left
-        ≡ calls.old.steps.now + calls.old.left }
+    ensures counted { calls.new.steps.now + calls.new.left ≡ calls.old.steps.now + calls.old.left }
     // The whole text of the input was written.
-    ensures answered { OnOk result (HasAnsweredAll session.old.console
-        (R.remaining calls.old.reader.now) (W.contents writer.old) (W.contents writer.new)) }
+    ensures answered { OnOk result
+        (HasAnsweredAll (run_state session.old (R.remaining calls.old.reader.now) (W.contents writer.old)) (W.contents writer.new)) }
     // After a read fault it is the text of the lines that were whole before.
-    ensures read_fault { IsErrOf result RunFault.Read → HasAnsweredWhole session.old.console
-        (R.remaining calls.old.reader.now) (R.remaining calls.new.reader.now)
-        (W.contents writer.old) (W.contents writer.new) }
+    ensures read_fault { IsErrOf result RunFault.Read
+        → HasAnsweredWhole (run_state session.old (R.remaining calls.old.reader.now) (W.contents writer.old))
+        (R.remaining calls.new.reader.now) (W.contents writer.new) }
     // After any fault it is a prefix of the text.
-    ensures part { OnErr result (HasAnsweredPart session.old.console
-        (R.remaining calls.old.reader.now) (W.contents writer.old) (W.contents writer.new)) }
+    ensures part { OnErr result
+        (HasAnsweredPart (run_state session.old (R.remaining calls.old.reader.now) (W.contents writer.old)) (W.contents writer.new)) }
 {
     'lines: loop {
         flush_before_read(lines, writer)?;

@@ -48,8 +48,8 @@ returns-in-Err-answer_line-clause-any_moment g c = λ honest first input old h.
     input_run _ D f.journal.sync D.fills_with_zeros c.args.every first (h.lines ++ made_turn (drop_return w.0) ∷ []) input f.journal.device c.answer_line.new.file.journal.device
     (on_begins _ c.args.every first input _ old _ _ _ _ h _ w.0 None w.1) (c.answer_line.ensures.any_moment honest first h.lines old (drop_return w.0) same h.after)
 
-pub answer_line-requires-clause-after : goal.answer_line-requires-clause-after
-answer_line-requires-clause-after g c κs within =
+pub answer_line-requires-clause-between : goal.answer_line-requires-clause-between
+answer_line-requires-clause-between g c κs within =
     let come = c.requires.come in
     (come.0, come.3.lines, come.2, come.3.after)
 

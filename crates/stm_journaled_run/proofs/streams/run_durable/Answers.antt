@@ -1,24 +1,27 @@
-use Rattle.std.proofs.Common.{ℕ, List, OnOk, OnErr, IfSome, sym, subst}
+use Rattle.std.proofs.Common.{ℕ, List, length, OnOk, OnErr, IfSome, sym, ap, ◌∙◌, subst}
 use Rattle.std.specs.Io.KnownBytes.{Appends}
 use Rattle.stm_terms.specs.Texts.{IsPrefixOf}
 use Rattle.stm_lines.specs.Lines.{lines_of}
 use Rattle.stm_run.specs.declared.console.Console.{Console}
+use Rattle.stm_run.specs.ConsoleState.{events_of}
 use Rattle.stm_run.specs.LineCheckpoints.{states_after, answers_by, ForTurns}
 use Rattle.stm_journaled_run.specs.DurableRun.{resumed_console, KeepsConsole, RefusalCause, HasCommitted, CoversAnswers}
 use Rattle.stm_journaled_run.specs.NewEvents.{MayBeginRun}
 use Rattle.stm_journaled_run.proofs.Ended.{loaded_kept, may_begin, all_answered, part_answered, part_still, is_committed, is_covered, committed_still, covered_still, leaves_still, if_some, for_plains}
 use Rattle.stm_journaled_run.proofs.streams.run_durable.Goals as goal
 
-pub run_begun-requires-clause-may_begin : goal.run_begun-requires-clause-may_begin
-run_begun-requires-clause-may_begin g c κs within =
-    subst MayBeginRun (sym c.in-Ok.ensures.console) (may_begin c.args.file.now.format c.args.options.max_events c.args.loaded c.requires.lines c.requires.format)
-
-pub run_begun-requires-clause-kept : goal.run_begun-requires-clause-kept
-run_begun-requires-clause-kept g c κs within =
+pub run_begun-requires-clause-fresh : goal.run_begun-requires-clause-fresh
+run_begun-requires-clause-fresh g c κs within =
     let D = g.D.Device.disk in
     let f = c.args.file.now in
-    subst (KeepsConsole D f) (sym c.in-Ok.ensures.console)
-    (loaded_kept D f c.args.options.max_events c.args.loaded c.requires.format c.requires.kept)
+    let e = c.in-Ok.ensures in
+    record {
+      may_begin = subst MayBeginRun (sym e.console) (may_begin f.format c.args.options.max_events c.args.loaded c.requires.lines c.requires.format);
+      held = e.held;
+      recorded = e.recorded ∙ ap (λ (s : Console). length (events_of s)) (sym e.console);
+      tries = e.tries;
+      kept = subst (KeepsConsole D f) (sym e.console) (loaded_kept D f c.args.options.max_events c.args.loaded c.requires.format c.requires.kept);
+    }
 
 pub returns-in-Ok-clause-answered : goal.returns-in-Ok-clause-answered
 returns-in-Ok-clause-answered g c =

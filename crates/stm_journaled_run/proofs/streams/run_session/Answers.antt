@@ -9,7 +9,7 @@ use Rattle.stm_journaled_run.specs.DurableRun.{KeepsConsole, RefusalCause, RunsU
 use Rattle.stm_journaled_run.specs.Committing.{FailsOver}
 use Rattle.stm_journaled_run.proofs.Committing.{may_commit}
 use Rattle.stm_journaled_run.proofs.RunCrashes.{input_run, events_run, run_still, runs_on}
-use Rattle.stm_journaled_run.proofs.Running.{comes_first, last_begins, failed_synced}
+use Rattle.stm_journaled_run.proofs.Running.{come_begins, comes_first, failed_run, failed_synced, last_begins, still_come}
 use Rattle.stm_journaled_run.proofs.SessionEnded.{passed_fault, come_to_end, ended, unended}
 use Rattle.stm_journaled_run.proofs.streams.run_session.Goals as goal
 
@@ -17,12 +17,12 @@ pub lines-init : goal.lines-init
 lines-init g c =
     let D = g.D.Device.disk in
     let f = c.args.file.now in
-    let r = c.requires in
+    let r = c.requires.fresh in
     let s = c.args.session.now.console in
     let input = g.R.Read.remaining c.args.calls.now.reader.now in
     record {
       come = comes_first (KeepsConsole D f) c.args.every s input (prepend_known c.args.lines.now.chunk input) (g.W.Write.contents c.args.writer.now) (string_bytes c.args.session.now.held) c.args.session.now.recorded
-          r.may_begin r.held r.recorded r.kept (ap (λ (l : List ℕ). prepend_known l input) r.chunk ∙ prepend_known-nil input);
+          r.may_begin r.held r.recorded r.kept (ap (λ (l : List ℕ). prepend_known l input) c.requires.chunk ∙ prepend_known-nil input);
       moment = λ honest. run_still (RefusalCause D) D f.journal.sync D.fills_with_zeros c.args.every s input f refl refl (r.kept.1 honest) (g.met.D.Device.lawful.only_now f.journal.device);
       because = λ more. absurd (omega (arith, r.tries, more));
       sync = refl;
@@ -58,7 +58,8 @@ returns-in_err-commit_before_read-clause-fault g c =
     let i = c.lines.invariant in
     passed_fault (FailsOver D first f c.args.every s input old new) c.from_residual.result p.0 _ p.1 p.2
     (failed_synced (RefusalCause D) D.is_honest _ first.journal.sync D.fills_with_zeros (D.may_leave f.journal.device) (KeepsConsole D f) c.args.every s input old new _ i.sync
-    (c.in_err-commit_before_read.ensures.fault c.args.every s input _ old i.come))
+    (failed_run D.is_honest _ D.fills_with_zeros (D.may_leave f.journal.device) (KeepsConsole D f) c.args.every s i.come.lines input old new _ (come_begins _ c.args.every s input _ old _ _ _ _ i.come)
+    (c.in_err-commit_before_read.ensures.fault c.args.every s i.come.lines old i.come.after)))
 
 pub returns-in_err-commit_before_read-clause-read_fault : goal.returns-in_err-commit_before_read-clause-read_fault
 returns-in_err-commit_before_read-clause-read_fault g c = λ e.
@@ -72,7 +73,7 @@ returns-in_err-commit_before_read-clause-any_moment g c = λ honest.
     let input = g.R.Read.remaining c.args.calls.now.reader.now in
     let i = c.lines.invariant in
     runs_on (RefusalCause D) D c.args.file.now.journal.sync D.fills_with_zeros c.args.every s input _ _ _ _ i.sync (i.moment honest)
-    (c.commit_before_read.ensures.any_moment honest c.args.every s input _ (g.W.Write.contents c.args.writer.now) i.come)
+    (input_run (RefusalCause D) D _ D.fills_with_zeros c.args.every s i.come.lines input _ _ (come_begins _ c.args.every s input _ _ _ _ _ _ i.come) (c.commit_before_read.ensures.any_moment honest c.args.every s i.come.lines (g.W.Write.contents c.args.writer.now) i.come.after))
 
 -- ---- the next line couldn't be answered
 pub answer_next-requires-clause-come : goal.answer_next-requires-clause-come
@@ -80,7 +81,7 @@ answer_next-requires-clause-come g c κs within =
     let s = c.args.session.now.console in
     let input = g.R.Read.remaining c.args.calls.now.reader.now in
     let old = g.W.Write.contents c.args.writer.now in
-    (s, input, old, c.in_ok-commit_before_read.ensures.done c.args.every s input _ old c.lines.invariant.come)
+    (s, input, old, still_come _ c.args.every s input _ old _ _ _ _ c.lines.invariant.come _ _ _ _ _ (c.in_ok-commit_before_read.ensures.done c.args.every s))
 
 pub answer_next-requires-clause-because : goal.answer_next-requires-clause-because
 answer_next-requires-clause-because g c κs within = λ more. c.lines.invariant.because (subst (λ (k : ℕ). 0 < k) c.commit_before_read.ensures.tries more)
@@ -110,7 +111,7 @@ returns-in_err-answer_next-clause-fault g c =
     let new = g.W.Write.contents c.answer_next.new.writer in
     let p = err_from_is_err_and c.from_residual-in_err-answer_next.result c.from_residual-in_err-answer_next.ensures.1 in
     let i = c.lines.invariant in
-    let come = c.in_ok-commit_before_read.ensures.done c.args.every s input _ old i.come in
+    let come = still_come _ c.args.every s input _ old _ _ _ _ i.come _ _ _ _ _ (c.in_ok-commit_before_read.ensures.done c.args.every s) in
     passed_fault (FailsOver D first f c.args.every s input old new) c.from_residual-in_err-answer_next.result p.0 _ p.1 p.2
     (failed_synced (RefusalCause D) D.is_honest _ first.journal.sync D.fills_with_zeros (D.may_leave f.journal.device) (KeepsConsole D f) c.args.every s input old new _ (c.commit_before_read.ensures.sync ∙ i.sync)
     (c.in_err-answer_next.ensures.fault s input old come))
@@ -121,7 +122,7 @@ returns-in_err-answer_next-clause-read_fault g c = λ e.
     let input = g.R.Read.remaining c.args.calls.now.reader.now in
     let old = g.W.Write.contents c.args.writer.now in
     let p = err_from_is_err_and c.from_residual-in_err-answer_next.result c.from_residual-in_err-answer_next.ensures.1 in
-    let come = c.in_ok-commit_before_read.ensures.done c.args.every s input _ old c.lines.invariant.come in
+    let come = still_come _ c.args.every s input _ old _ _ _ _ c.lines.invariant.come _ _ _ _ _ (c.in_ok-commit_before_read.ensures.done c.args.every s) in
     let same : c.in_err-answer_next.field-0.0 ≡ Run Read = cc (p.1, p.2, e) in
     c.in_err-answer_next.ensures.read_fault (ap (λ x. Err x) same) s input old come
 
@@ -132,8 +133,8 @@ returns-in_err-answer_next-clause-any_moment g c = λ honest.
     let input = g.R.Read.remaining c.args.calls.now.reader.now in
     let old = g.W.Write.contents c.args.writer.now in
     let i = c.lines.invariant in
-    let come = c.in_ok-commit_before_read.ensures.done c.args.every s input _ old i.come in
-    let before = runs_on (RefusalCause D) D c.args.file.now.journal.sync D.fills_with_zeros c.args.every s input _ _ _ _ i.sync (i.moment honest) (c.commit_before_read.ensures.any_moment honest c.args.every s input _ old i.come) in
+    let come = still_come _ c.args.every s input _ old _ _ _ _ i.come _ _ _ _ _ (c.in_ok-commit_before_read.ensures.done c.args.every s) in
+    let before = runs_on (RefusalCause D) D c.args.file.now.journal.sync D.fills_with_zeros c.args.every s input _ _ _ _ i.sync (i.moment honest) (input_run (RefusalCause D) D _ D.fills_with_zeros c.args.every s i.come.lines input _ _ (come_begins _ c.args.every s input _ _ _ _ _ _ i.come) (c.commit_before_read.ensures.any_moment honest c.args.every s i.come.lines old i.come.after)) in
     runs_on (RefusalCause D) D c.args.file.now.journal.sync D.fills_with_zeros c.args.every s input _ _ _ _ (c.commit_before_read.ensures.sync ∙ i.sync) before (c.answer_next.ensures.any_moment honest s input old come)
 
 -- ---- no line is left
@@ -144,7 +145,7 @@ hand_on-requires g c =
     let input = g.R.Read.remaining c.args.calls.now.reader.now in
     let old = g.W.Write.contents c.args.writer.now in
     let mid = c.answer_next.new in
-    let come = c.in_ok-commit_before_read.ensures.done c.args.every s input _ old c.lines.invariant.come in
+    let come = still_come _ c.args.every s input _ old _ _ _ _ c.lines.invariant.come _ _ _ _ _ (c.in_ok-commit_before_read.ensures.done c.args.every s) in
     let end = come_to_end (KeepsConsole D mid.file) c.args.every s input old (g.W.Write.contents mid.writer) mid.session.console (string_bytes mid.session.held) mid.session.recorded
     (prepend_known mid.lines.chunk (g.R.Read.remaining mid.calls.reader.now)) _ c.if-not-branch.true (c.in_ok-answer_next.ensures.done s input old come) in
     may_commit (KeepsConsole D mid.file) c.args.every s end.lines old (g.W.Write.contents mid.writer) mid.session.console (string_bytes mid.session.held) mid.session.recorded end.after
@@ -168,7 +169,7 @@ returns-then-not-branch-clause-done g c =
     let input = g.R.Read.remaining c.args.calls.now.reader.now in
     let old = g.W.Write.contents c.args.writer.now in
     let mid = c.answer_next.new in
-    let come = c.in_ok-commit_before_read.ensures.done c.args.every s input _ old c.lines.invariant.come in
+    let come = still_come _ c.args.every s input _ old _ _ _ _ c.lines.invariant.come _ _ _ _ _ (c.in_ok-commit_before_read.ensures.done c.args.every s) in
     let end = come_to_end (KeepsConsole D mid.file) c.args.every s input old (g.W.Write.contents mid.writer) mid.session.console (string_bytes mid.session.held) mid.session.recorded
     (prepend_known mid.lines.chunk (g.R.Read.remaining mid.calls.reader.now)) _ c.if-not-branch.true (c.in_ok-answer_next.ensures.done s input old come) in
     ended (KeepsConsole D mid.file) c.args.every s input old (g.W.Write.contents mid.writer) mid.session.console (string_bytes mid.session.held) mid.session.recorded end
@@ -183,7 +184,7 @@ returns-then-not-branch-clause-fault g c =
     let old = g.W.Write.contents c.args.writer.now in
     let mid = c.answer_next.new in
     let i = c.lines.invariant in
-    let come = c.in_ok-commit_before_read.ensures.done c.args.every s input _ old i.come in
+    let come = still_come _ c.args.every s input _ old _ _ _ _ i.come _ _ _ _ _ (c.in_ok-commit_before_read.ensures.done c.args.every s) in
     let end = come_to_end (KeepsConsole D mid.file) c.args.every s input old (g.W.Write.contents mid.writer) mid.session.console (string_bytes mid.session.held) mid.session.recorded
     (prepend_known mid.lines.chunk (g.R.Read.remaining mid.calls.reader.now)) _ c.if-not-branch.true (c.in_ok-answer_next.ensures.done s input old come) in
     unended (KeepsConsole D mid.file) c.args.every s input old (g.W.Write.contents mid.writer) mid.session.console (string_bytes mid.session.held) mid.session.recorded end
@@ -201,10 +202,10 @@ returns-then-not-branch-clause-any_moment g c = λ honest.
     let old = g.W.Write.contents c.args.writer.now in
     let mid = c.answer_next.new in
     let i = c.lines.invariant in
-    let come = c.in_ok-commit_before_read.ensures.done c.args.every s input _ old i.come in
+    let come = still_come _ c.args.every s input _ old _ _ _ _ i.come _ _ _ _ _ (c.in_ok-commit_before_read.ensures.done c.args.every s) in
     let end = come_to_end (KeepsConsole D mid.file) c.args.every s input old (g.W.Write.contents mid.writer) mid.session.console (string_bytes mid.session.held) mid.session.recorded
     (prepend_known mid.lines.chunk (g.R.Read.remaining mid.calls.reader.now)) _ c.if-not-branch.true (c.in_ok-answer_next.ensures.done s input old come) in
-    let before = runs_on (RefusalCause D) D c.args.file.now.journal.sync D.fills_with_zeros c.args.every s input _ _ _ _ i.sync (i.moment honest) (c.commit_before_read.ensures.any_moment honest c.args.every s input _ old i.come) in
+    let before = runs_on (RefusalCause D) D c.args.file.now.journal.sync D.fills_with_zeros c.args.every s input _ _ _ _ i.sync (i.moment honest) (input_run (RefusalCause D) D _ D.fills_with_zeros c.args.every s i.come.lines input _ _ (come_begins _ c.args.every s input _ _ _ _ _ _ i.come) (c.commit_before_read.ensures.any_moment honest c.args.every s i.come.lines old i.come.after)) in
     let answered = runs_on (RefusalCause D) D c.args.file.now.journal.sync D.fills_with_zeros c.args.every s input _ _ _ _ (c.commit_before_read.ensures.sync ∙ i.sync) before (c.answer_next.ensures.any_moment honest s input old come) in
     runs_on (RefusalCause D) D c.args.file.now.journal.sync D.fills_with_zeros c.args.every s input _ _ _ _ (c.answer_next.ensures.sync ∙ c.commit_before_read.ensures.sync ∙ i.sync) answered
     (input_run (RefusalCause D) D mid.file.journal.sync D.fills_with_zeros c.args.every s end.lines input mid.file.journal.device c.hand_on.new.file.journal.device (last_begins (turn_lines end.lines) input end.lines_are)
@@ -220,12 +221,12 @@ lines-preserved g c =
     let input = g.R.Read.remaining c.args.calls.now.reader.now in
     let old = g.W.Write.contents c.args.writer.now in
     let i = c.lines.invariant in
-    let come = c.in_ok-commit_before_read.ensures.done c.args.every s input _ old i.come in
+    let come = still_come _ c.args.every s input _ old _ _ _ _ i.come _ _ _ _ _ (c.in_ok-commit_before_read.ensures.done c.args.every s) in
     let next = rw c.if-not-branch.false at c.in_ok-answer_next.ensures.done in
     record {
       come = next s input old come;
       moment = λ honest.
-          let before = runs_on (RefusalCause D) D c.args.file.now.journal.sync D.fills_with_zeros c.args.every s input _ _ _ _ i.sync (i.moment honest) (c.commit_before_read.ensures.any_moment honest c.args.every s input _ old i.come) in
+          let before = runs_on (RefusalCause D) D c.args.file.now.journal.sync D.fills_with_zeros c.args.every s input _ _ _ _ i.sync (i.moment honest) (input_run (RefusalCause D) D _ D.fills_with_zeros c.args.every s i.come.lines input _ _ (come_begins _ c.args.every s input _ _ _ _ _ _ i.come) (c.commit_before_read.ensures.any_moment honest c.args.every s i.come.lines old i.come.after)) in
           runs_on (RefusalCause D) D c.args.file.now.journal.sync D.fills_with_zeros c.args.every s input _ _ _ _ (c.commit_before_read.ensures.sync ∙ i.sync) before (c.answer_next.ensures.any_moment honest s input old come);
       because = c.answer_next.ensures.because;
       sync = c.answer_next.ensures.sync ∙ c.commit_before_read.ensures.sync ∙ i.sync;
@@ -234,4 +235,4 @@ lines-preserved g c =
     }
 
 pub commit_before_read-requires : goal.commit_before_read-requires
-commit_before_read-requires g c = (_, _, _, _, _, c.lines.invariant.come)
+commit_before_read-requires g c = (_, (_, _, _, c.lines.invariant.come.after))

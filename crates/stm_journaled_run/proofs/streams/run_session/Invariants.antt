@@ -1,19 +1,15 @@
-use Rattle.std.proofs.Common.{◌≡◌, ◌<◌, IsTrue, string_bytes}
-use Rattle.std.specs.Io.KnownBytes.{prepend_known}
-use Rattle.stm_journal.specs.Disk.{LeavesOnly}
+use Rattle.std.proofs.Common.{◌≡◌, ◌<◌}
 use Rattle.stm_lines.specs.TakenLines.{bytes_to_come}
-use Rattle.stm_journaled_run.specs.DurableRun.{KeepsConsole, RefusalCause}
-use Rattle.stm_journaled_run.specs.Committing.{HasCome, LeavesRun}
+use Rattle.stm_run.specs.Streaming.{unread}
+use Rattle.stm_journaled_run.specs.DurableRun.{RefusalCause}
+use Rattle.stm_journaled_run.specs.GoingOn.{HasComeTo, InputLeaves, run_at}
 use Rattle.stm_journaled_run.proofs.streams.run_session.Given as goal
 
 abbrev pub invariant-lines : goal.invariant-lines
 invariant-lines g l = record {
-  come : HasCome
-      (RefusalCause g.D.Device.disk) (KeepsConsole g.D.Device.disk l.file)
-      l.fn.every l.initial.session.console (g.R.Read.remaining l.initial.calls.reader.now) (prepend_known l.lines.chunk (g.R.Read.remaining l.calls.reader.now))
-      (g.W.Write.contents l.initial.writer) (g.W.Write.contents l.writer) l.session.console (string_bytes l.session.held) l.session.recorded;
-  moment : IsTrue g.D.Device.disk.is_honest → LeavesOnly g.D.Device.disk l.initial.file.journal.device l.file.journal.device
-      (LeavesRun (RefusalCause g.D.Device.disk) l.initial.file.journal.sync g.D.Device.disk.fills_with_zeros l.fn.every l.initial.session.console (g.R.Read.remaining l.initial.calls.reader.now));
+  come : HasComeTo g.D.Device.disk l.fn.every l.initial.session.console (g.R.Read.remaining l.initial.calls.reader.now)
+      (unread g.R.Read.remaining l.lines l.calls) (g.W.Write.contents l.initial.writer) (run_at l.file l.session (g.W.Write.contents l.writer));
+  moment : InputLeaves g.D.Device.disk l.initial.file l.file l.fn.every l.initial.session.console (g.R.Read.remaining l.initial.calls.reader.now);
   because : 0 < l.session.tries_from → RefusalCause g.D.Device.disk;
   sync : l.file.journal.sync ≡ l.initial.file.journal.sync;
   same_reader : l.calls.reader.ghost_name ≡ l.initial.calls.reader.ghost_name;

@@ -7,22 +7,17 @@ use Rattle.stm_journaled_run.proofs.TakenLines.{failed_as, taken_run, untaken}
 use Rattle.stm_journaled_run.proofs.session.DurableSession.answer_line.Goals as goal
 
 pub take_line-requires-clause-may : goal.take_line-requires-clause-may
-take_line-requires-clause-may g c κs within = may_commit _ _ _ _ _ _ _ _ _ c.requires.after.3
+take_line-requires-clause-may g c κs within = may_commit _ _ _ _ _ _ _ _ _ c.requires.between.3
 
 -- ---- its events are to be recorded
 pub commit_if_long-requires : goal.commit_if_long-requires
 commit_if_long-requires g c =
-    let r = c.requires.after in
+    let r = c.requires.between in
     let line = c.args.line.now in
     let k = rw c.in-Ok-Held.field-0-is at c.in-Ok-Held.ensures.taken in
     let grown = (rw c.in-Ok-Held.field-0-is at c.in-Ok-Held.ensures.grows) refl in
-    let fit = (rw c.in-Ok-Held.field-0-is at c.in-Ok-Held.ensures.variables) refl in (
-      c.args.every,
-      r.0,
-      r.1 ++ made_turn line ∷ [],
-      r.2,
-      after_kept _ _ c.args.every r.0 _ r.2 _ _ _ _ k.3 (held_more _ c.args.every r.0 r.1 r.2 _ _ _ _ r.3 line line None _ _ _ refl k.0 k.1 k.2 grown fit),
-    )
+    let fit = (rw c.in-Ok-Held.field-0-is at c.in-Ok-Held.ensures.variables) refl in
+    (c.args.every, (r.0, r.1 ++ made_turn line ∷ [], r.2, after_kept _ _ c.args.every r.0 _ r.2 _ _ _ _ k.3 (held_more _ c.args.every r.0 r.1 r.2 _ _ _ _ r.3 line line None _ _ _ refl k.0 k.1 k.2 grown fit)))
 
 pub returns-in-Ok-Held-clause-done : goal.returns-in-Ok-Held-clause-done
 returns-in-Ok-Held-clause-done g c =
@@ -110,7 +105,7 @@ returns-in-Ok-Unmade-clause-any_moment g c = λ honest first before old judged s
 -- ---- a part of its answer is to be streamed
 pub stream-requires : goal.stream-requires
 stream-requires g c =
-    let r = c.requires.after in
+    let r = c.requires.between in
     let line = c.args.line.now in
     let k = rw c.in-Ok-Streamed.field-0-is at c.in-Ok-Streamed.ensures.taken in
     let grown = (rw c.in-Ok-Streamed.field-0-is at c.in-Ok-Streamed.ensures.grows) refl in

@@ -38,3 +38,6 @@ returns-else-len-lt-MOST_HELD-clause-any_moment g c = λ honest every first line
     let f = c.args.file.now in
     events_run _ D f.journal.sync D.fills_with_zeros every first _ lines old _ _ _ _ a.behind f.journal.device c.commit.new.file.journal.device
     (c.commit.ensures.any_moment honest (may_commit _ _ _ _ _ _ _ _ _ a))
+
+pub commit-requires : goal.commit-requires
+commit-requires g c = may_commit _ _ _ _ _ _ _ _ _ c.requires.1.3
