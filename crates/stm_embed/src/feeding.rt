@@ -6,7 +6,7 @@ ghost use Rattle.stm_run.specs.Console.{answer_to, answers_to, initial_console, 
 ghost use Rattle.stm_run.specs.AfterLines.{state_after_lines};
 ghost use Rattle.stm_embed.specs.Exploring.{IsExplored};
 ghost use Rattle.stm_embed.specs.Feeding.{console_of, unread_answers};
-ghost use Rattle.stm_embed.specs.Status.{all_taken, part_of_line, no_memory};
+ghost use Rattle.stm_embed.specs.Status.{all_taken, part_of_line, no_memory, taken_status};
 
 use crate::exploring::{Ended, explore_script};
 use crate::status::{ALL_TAKEN, NO_MEMORY, PART_OF_LINE};
@@ -41,6 +41,7 @@ impl Taken {
     /// How a call ended that took so much of these lines.
     pub fn status(self, lines: &[u8]) -> u32
         requires { self.count ≤ length lines.now }
+        ensures status { result ≢ no_memory → result ≡ taken_status self.count (length lines.now) }
         ensures memory { result ≢ no_memory → self.is_out_of_memory ≡ false }
         ensures all { result ≡ all_taken → self.count ≡ length lines.now }
         ensures part { result ≡ part_of_line → (self.count < length lines.now)

@@ -28,7 +28,7 @@ ghost use Rattle.stm_command_line.specs.declared.version.TheConstants.{VERSION};
 ghost use Rattle.stm_embed.specs.Checking.{IsJudgement, found_status, numbers_of};
 ghost use Rattle.stm_embed.specs.Exploring.{IsExplored, ended_status, explore_options, invalid_line};
 ghost use Rattle.stm_embed.specs.Feeding.{HasOnly, IsNew, console_of, unread_answers};
-ghost use Rattle.stm_embed.specs.Status.{all_taken, part_of_line, no_memory};
+ghost use Rattle.stm_embed.specs.Status.{all_taken, part_of_line, no_memory, taken_status};
 ghost use Rattle.stm_embed.specs.declared.checking.Found.{Found as AnyFound};
 ghost use Rattle.stm_embed.specs.declared.exploring.Ended.{Ended as AnyEnded};
 
@@ -119,6 +119,8 @@ pub extern "C" fn stmdesk_feed(
     // The console is the one after these lines, unless memory ran out: then it may have done a part of the next.
     ensures console { result ≢ no_memory → console_of desk.new.embedded
         ≡ state_after_lines (console_of desk.old.embedded) (whole_lines_of (take fed.new.taken lines.now)) }
+    // Unless memory ran out, the status says whether all were taken.
+    ensures status { result ≢ no_memory → result ≡ taken_status fed.new.taken (length lines.now) }
     ensures all { result ≡ all_taken → fed.new.taken ≡ length lines.now }
     ensures part { result ≡ part_of_line → (fed.new.taken < length lines.now)
         × NoLineFeed (drop fed.new.taken lines.now) }
