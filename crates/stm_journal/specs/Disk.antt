@@ -105,10 +105,7 @@ ShowsWhatIsLeft disk old new = IsTrue disk.is_honest → SettledFrom disk old ne
 abbrev pub CrashChanges : {D : Type 0} → Disk D → (List ℕ → List ℕ → Type 0) → D → D → Type 0
 CrashChanges disk step old new = IsTrue disk.is_honest → ComesFrom step (disk.may_leave old) (disk.may_leave new)
 
--- a crash leaves nothing that it might not have left before, unless it is this
-abbrev pub CrashAdds : {D : Type 0} → Disk D → (List ℕ → Type 0) → D → D → Type 0
-CrashAdds disk P old new = IsTrue disk.is_honest → (c : List ℕ) → disk.may_leave new c → disk.may_leave old c ⊎ P c
-
+-- a crash leaves nothing that it might not have left before
 abbrev pub CrashAddsNothing : {D : Type 0} → Disk D → D → D → Type 0
 CrashAddsNothing disk old new = IsTrue disk.is_honest → (c : List ℕ) → disk.may_leave new c → disk.may_leave old c
 

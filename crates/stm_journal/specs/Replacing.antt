@@ -1,8 +1,59 @@
--- Why no file has taken the place of another.
-use Rattle.std.specs.Prelude.{⊤, Result, Ok, Err}
+-- A file that takes the place of another: what a call that puts it there leaves, by its result.
+use Rattle.std.specs.Prelude.{◌≡◌, ◌⊎◌, ⊤, List, ℕ, IsTrue, Result, Ok, Err}
+use Rattle.stm_journal.specs.Device.{Elapses}
+use Rattle.stm_journal.specs.Disk.{Disk, OnDisk}
 use Rattle.stm_journal.specs.declared.error.JournalError.{JournalError}
 use Rattle.stm_journal.specs.declared.replace.ReplaceError.{ReplaceError}
 use Rattle.stm_journal.specs.declared.replace.ReplaceError.TheVariants.{Refused, Unfinished}
+
+-- time goes on in the call, and a crash in it leaves these files
+abbrev pub ElapsesIn : {D : Type 0} → Disk D → D → D → (List ℕ → Type 0) → Type 0
+ElapsesIn disk old new P = Elapses (disk.moment old) (disk.moment new) (disk.left_since old) (disk.left_since new) P
+
+-- The other file has taken the place of the old one.
+pub record HasReplaced {D : Type 0} (disk : Disk D) (old other new : D) : Type 0 where
+  -- reads return the other file
+  pub seen : disk.seen new ≡ disk.seen other
+  -- from now on a crash leaves it, and nothing else
+  pub on_disk : OnDisk disk new
+  -- a crash in the call left what it might have left before, or all of the other file
+  pub time : ElapsesIn disk old new (λ c. c ≡ disk.seen other)
+
+-- Nothing has changed.
+pub record IsAsBefore {D : Type 0} (disk : Disk D) (old new : D) : Type 0 where
+  -- reads return the old file
+  pub seen : disk.seen new ≡ disk.seen old
+  -- no sync has failed meanwhile
+  pub settled : IsTrue (disk.is_settled old) → IsTrue (disk.is_settled new)
+  -- a crash leaves nothing that it might not have left before
+  pub leaves : (c : List ℕ) → disk.may_leave new c → disk.may_leave old c
+  -- a crash in the call left nothing else either
+  pub time : ElapsesIn disk old new (λ c. ⊥)
+
+-- It is the old file or the other one.
+pub record IsOldOrOther {D : Type 0} (disk : Disk D) (old other new : D) : Type 0 where
+  -- reads return the one or the other
+  pub seen : (disk.seen new ≡ disk.seen old) ⊎ (disk.seen new ≡ disk.seen other)
+  -- no sync has failed meanwhile
+  pub settled : IsTrue (disk.is_settled old) → IsTrue (disk.is_settled new)
+  -- a crash leaves what it might have left before, or all of the other file
+  pub leaves : (c : List ℕ) → disk.may_leave new c → disk.may_leave old c ⊎ (c ≡ disk.seen other)
+  -- so did a crash in the call
+  pub time : ElapsesIn disk old new (λ c. c ≡ disk.seen other)
+
+-- what the call leaves, by its result
+abbrev pub LeavesByResult : {D T : Type 0} → Disk D → D → D → D → Result T ReplaceError → Type 0
+-- the other file has taken the place of the old one
+LeavesByResult disk old other new (Ok x) = HasReplaced disk old other new
+-- nothing has changed
+LeavesByResult disk old other new (Err (Refused e)) = IsAsBefore disk old new
+-- it is the old file or the other one
+LeavesByResult disk old other new (Err (Unfinished e)) = IsOldOrOther disk old other new
+
+abbrev pub PutsOrKeeps : {D T : Type 0} → Disk D → D → D → D → Result T ReplaceError → Type 0
+PutsOrKeeps disk old other new result = IsTrue disk.is_honest → LeavesByResult disk old other new result
+
+-- ---- errors
 
 -- the error of the journal that it has
 abbrev pub error_within : ReplaceError → JournalError

@@ -1,8 +1,8 @@
 //! A file that takes the place of another.
 
-ghost use Rattle.std.specs.Prelude.{◌≡◌, ◌⊎◌, [], IsTrue, IfOk, OnOk, OnErr};
-ghost use Rattle.stm_journal.specs.Disk.{Shows, IsOnDisk, IsOneOf, IsSettled, StaysSettled, CrashAdds, CrashAddsNothing, TakesTime, FailsOnlyByDisk};
-ghost use Rattle.stm_journal.specs.Replacing.{OnRefused, journal_result};
+ghost use Rattle.std.specs.Prelude.{◌≡◌, [], IsTrue, IfOk};
+ghost use Rattle.stm_journal.specs.Disk.{Shows, IsOnDisk, IsSettled, StaysSettled, CrashAddsNothing, TakesTime, FailsOnlyByDisk};
+ghost use Rattle.stm_journal.specs.Replacing.{PutsOrKeeps, journal_result};
 
 use crate::device::Device;
 use crate::error::JournalError;
@@ -40,17 +40,9 @@ pub trait Replace: Device {
     where
         Self: Sized,
         requires durable { IsOnDisk Self.disk other }
-        ensures replaced { OnOk result (Shows Self.disk self.new (Self.disk.seen other)) }
-        ensures durable { OnOk result (IsOnDisk Self.disk self.new) }
-        ensures stays { OnErr result (StaysSettled Self.disk self.old self.new) }
-        // After an error it is the one or the other, and after a refusal it is as it was.
-        ensures unfinished { OnErr result (IsOneOf Self.disk self.old other self.new) }
-        ensures refused { OnRefused result (Shows Self.disk self.new (Self.disk.seen self.old)) }
-        // A crash leaves what it might have left before, or all of the other file; after a refusal only what it might have left before.
-        ensures crash { CrashAdds Self.disk (λ c. c ≡ Self.disk.seen other) self.old self.new }
-        ensures time { TakesTime Self.disk (λ c. c ≡ Self.disk.seen other) self.old self.new }
-        ensures refused_crash { OnRefused result (CrashAddsNothing Self.disk self.old self.new) }
-        ensures refused_time { OnRefused result (TakesTime Self.disk (Self.disk.may_leave self.new) self.old self.new) }
+        // On `Ok` the other file is there, and on the disk. On `Refused` nothing has changed. On `Unfinished` it is the one or the other,
+        // and a crash may leave either.
+        ensures puts { PutsOrKeeps Self.disk self.old other self.new result }
         ensures fault { FailsOnlyByDisk Self.disk self.old self.new (journal_result result) };
 
     /// Reports on standard error why no file has taken the place of this one, unless that was reported since one did.
