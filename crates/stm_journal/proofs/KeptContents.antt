@@ -1,10 +1,10 @@
 -- One more content of disk and cache joins those that a file has had.
 use Rattle.std.proofs.Common.{◌≡◌, ◌⊎◌, inl, inr, ⊎_elim, ℕ, zero, suc, ◌≤◌, List, [], ◌∷◌, ◌++◌, length, take, drop, refl, sym, ◌∙◌, subst, arith, length-append}
 use Rattle.std.proofs.lemmas.List.{take_all}
-use Rattle.stm_journal.specs.Device.{Cut, Elapses, Only, Torn, overwritten}
+use Rattle.stm_journal.specs.Device.{Cut, Elapses, Only, Torn, TornAppend, overwritten}
 use Rattle.stm_journal.specs.Cached.{IsEither, HadEither, SinceThen}
 use Rattle.stm_journal.specs.declared.cached.Content.{Content}
-use Rattle.stm_journal.proofs.Crash.{cut_done, torn_none, torn_written}
+use Rattle.stm_journal.proofs.Crash.{append_all, append_none, appended, cut_done, torn_none, torn_written}
 
 keeps : (past : List Content) (v : Content) (c : List ℕ) → HadEither past c → HadEither (past ++ v ∷ []) c
 keeps [] v c had = absurd had
@@ -79,3 +79,20 @@ pub write_leaves : (p q : Content) (at : ℕ) (bytes : List ℕ) → at ≤ leng
 write_leaves p q at bytes within disk cache c (inl is) =
     (p.disk.items, inl refl, subst (λ f. Torn at (length bytes) p.disk.items f) (sym (is ∙ disk)) (torn_none at (length bytes) p.disk.items))
 write_leaves p q at bytes within disk cache c (inr is) = (p.cache.items, inr refl, torn_written at bytes p.cache.items c within (is ∙ cache))
+
+-- what an append to the cache leaves, if disk and cache have the same
+pub append_leaves : (p q : Content) (at : ℕ) (bytes : List ℕ) → at ≡ length p.cache.items → Only p.cache.items (IsEither p)
+    → q.disk.items ≡ p.disk.items → q.cache.items ≡ overwritten at bytes p.cache.items
+    → (c : List ℕ) → IsEither q c → TornAppend bytes p.cache.items c
+append_leaves p q at bytes at_end only disk cache c (inl is) =
+    subst (λ f. TornAppend bytes p.cache.items f) (sym (is ∙ disk ∙ only p.disk.items (inl refl))) (append_none bytes p.cache.items)
+append_leaves p q at bytes at_end only disk cache c (inr is) =
+    append_all bytes p.cache.items c (is ∙ appended p.cache.items at bytes q.cache.items at_end cache)
+
+-- what one leaves that has written nothing
+pub unwritten_leaves : (p q : Content) (bytes : List ℕ) → Only p.cache.items (IsEither p) → q.disk.items ≡ p.disk.items → q.cache.items ≡ p.cache.items
+    → (c : List ℕ) → IsEither q c → TornAppend bytes p.cache.items c
+unwritten_leaves p q bytes only disk cache c left =
+    subst (λ f. TornAppend bytes p.cache.items f)
+    (sym (⊎_elim (λ (is : c ≡ q.disk.items). is ∙ disk ∙ only p.disk.items (inl refl)) (λ (is : c ≡ q.cache.items). is ∙ cache) left))
+    (append_none bytes p.cache.items)

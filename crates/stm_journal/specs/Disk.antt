@@ -1,7 +1,7 @@
 -- A device in one value: what reads return of it, what a crash may leave, and when. Each word holds if the device is honest.
 use Rattle.std.specs.Prelude.{◌≡◌, ◌⊎◌, ⊤, ◌<◌, ◌≤◌, ℕ, Bool, true, false, IsTrue, List, [], length, Result}
 use Rattle.stm_journal.specs.declared.error.JournalError.{JournalError}
-use Rattle.stm_journal.specs.Device.{Only, ComesFrom, TornAppend, Elapses, Own, no_own, HasCause, HasReadCause}
+use Rattle.stm_journal.specs.Device.{Only, ComesFrom, TornAppend, IsInLastSector, Elapses, Own, no_own, HasCause, HasReadCause}
 
 pub record Disk (D : Type 0) : Type 1 where
   -- whether the device does what is said here
@@ -113,6 +113,12 @@ CrashAddsNothing disk old new = IsTrue disk.is_honest → (c : List ℕ) → dis
 abbrev pub FillsWithZeros : {D : Type 0} → Disk D → D → D → ℕ → List ℕ → Type 0
 FillsWithZeros disk old new at bytes =
     IsTrue disk.is_honest → IsTrue disk.fills_with_zeros → at ≡ length (disk.seen old) → Only (disk.seen old) (disk.may_leave old)
+    → (c : List ℕ) → disk.may_leave new c → TornAppend bytes (disk.seen old) c
+
+-- The same on each device, if they are in the sector in which the file ends: after the end of a file the rest of its last sector is zeros.
+abbrev pub FillsSector : {D : Type 0} → Disk D → D → D → ℕ → List ℕ → Type 0
+FillsSector disk old new at bytes =
+    IsTrue disk.is_honest → IsInLastSector at (length bytes) → at ≡ length (disk.seen old) → Only (disk.seen old) (disk.may_leave old)
     → (c : List ℕ) → disk.may_leave new c → TornAppend bytes (disk.seen old) c
 
 -- time goes on, and meanwhile a crash leaves these files

@@ -1,7 +1,7 @@
-use Rattle.std.proofs.Common.{◌≡◌, ◌∙◌, ap, rules}
+use Rattle.std.proofs.Common.{◌≡◌, ◌∙◌, ap, refl, rules}
 use Rattle.stm_journal.specs.Device.{overwritten}
 use Rattle.stm_journal.specs.declared.cached.Content.{Content}
-use Rattle.stm_journal.proofs.KeptContents.{elapses_to, write_leaves}
+use Rattle.stm_journal.proofs.KeptContents.{append_leaves, elapses_to, unwritten_leaves, write_leaves}
 use Rattle.stm_journal.proofs.cached.CachedDevice.write_at.Goals as goal
 
 pub returns-clause-crash : goal.returns-clause-crash
@@ -12,6 +12,31 @@ returns-clause-crash c honest =
     let cache : c.in_ok-rewritten.field-0.items ≡ overwritten c.args.at c.args.bytes.now p.cache.items = search rules in
     write_leaves p c.replace.new.content c.args.at c.args.bytes.now (c.requires honest) (ap (λ (k : Content). k.disk.items) is ∙ disk)
     (ap (λ (k : Content). k.cache.items) is ∙ cache)
+
+pub returns-in_err-to_vec-clause-sector : goal.returns-in_err-to_vec-clause-sector
+returns-in_err-to_vec-clause-sector c honest fits at_end only file left =
+    let p = c.args.self.now.content in
+    unwritten_leaves p p c.args.bytes.now only refl refl file left
+
+pub returns-in_err-rewritten-clause-sector : goal.returns-in_err-rewritten-clause-sector
+returns-in_err-rewritten-clause-sector c honest fits at_end only file left =
+    let p = c.args.self.now.content in
+    unwritten_leaves p p c.args.bytes.now only refl refl file left
+
+pub returns-in_err-replace-clause-sector : goal.returns-in_err-replace-clause-sector
+returns-in_err-replace-clause-sector c honest fits at_end only file left =
+    let is = c.in_err-replace.ensures.err in
+    unwritten_leaves c.args.self.now.content c.replace.new.content c.args.bytes.now only (ap (λ (k : Content). k.disk.items) is)
+    (ap (λ (k : Content). k.cache.items) is) file left
+
+pub returns-clause-sector : goal.returns-clause-sector
+returns-clause-sector c honest fits at_end only file left =
+    let p = c.args.self.now.content in
+    let is = c.in_ok-replace.ensures.ok in
+    let disk : c.in_ok-to_vec.field-0.items ≡ p.disk.items = search rules in
+    let cache : c.in_ok-rewritten.field-0.items ≡ overwritten c.args.at c.args.bytes.now p.cache.items = search rules in
+    append_leaves p c.replace.new.content c.args.at c.args.bytes.now at_end only (ap (λ (k : Content). k.disk.items) is ∙ disk)
+    (ap (λ (k : Content). k.cache.items) is ∙ cache) file left
 
 pub returns-clause-time : goal.returns-clause-time
 returns-clause-time c honest =
