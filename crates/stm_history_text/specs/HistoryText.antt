@@ -3,7 +3,7 @@
 use Rattle.std.specs.Prelude.{ℕ, ◌+◌, List, [], ◌∷◌, ◌++◌, length, MatchResult, Option, Some, None}
 use Rattle.std.specs.Io.KnownBytes.{Appends}
 use Rattle.std.specs.declared.result.Result.{Result}
-use Rattle.stm_terms.specs.Texts.{IsPrefixOf}
+use Rattle.stm_lines.specs.WrittenFronts.{WritesFront}
 use Rattle.stm_store.specs.declared.cell.Cell.{Cell}
 use Rattle.stm_store.specs.Naming.{Named, name_numbered}
 use Rattle.stm_store.specs.Tables.{Declared}
@@ -51,7 +51,7 @@ block_lines (b ∷ bs) = block_line b ++ 10 ∷ block_lines bs
 abbrev pub cells_text : ℕ → ℕ → ℕ → ℕ → List Named → List Cell → List ℕ
 cells_text format next vars waiting names cells = checkpoint_header_line format next vars waiting ++ 10 ∷ cell_lines names cells
 
--- the same of a checkpoint, and the lines of its waiting blocks
+-- the lines of a checkpoint, whose first line announces this many waiting blocks: its variables, and then its waiting blocks
 abbrev pub checkpoint_text : ℕ → ℕ → CheckpointView → List ℕ
 checkpoint_text format waiting c = cells_text format c.next (length c.store) waiting c.names c.store ++ block_lines c.blocks
 
@@ -70,10 +70,6 @@ abbrev pub history_text : Start → List Event → List ℕ
 history_text s history = start_text s ++ event_lines history
 
 -- ---- writing it
-
--- some front of the text was written, and no more
-abbrev pub WritesFront : Option (List ℕ) → Option (List ℕ) → List ℕ → Type 0
-WritesFront old new text = (front : List ℕ) × IsPrefixOf front text × Appends old new front
 
 -- the text was written, or after a fault a part of it from its front
 abbrev pub WritesText : {E : Type 0} → Result Unit E → Option (List ℕ) → Option (List ℕ) → List ℕ → Type 0

@@ -69,7 +69,7 @@ labels_blocks history = list_any (λ e. is_labelling e.what) history
 abbrev pub is_plain_block : Option KeptCause → List ℕ → Bool
 is_plain_block cause label = not (is_some cause) && (length label == 0)
 
--- each of these waiting blocks can
+-- each of these waiting blocks can stand in format 4
 abbrev pub are_plain_blocks : List CheckpointBlock → Bool
 are_plain_blocks blocks = list_all (λ b. is_plain_block b.cause b.label) blocks
 
@@ -101,7 +101,7 @@ abbrev pub AreOfText : List Named → List CheckpointBlock → Type 0
 AreOfText names [] = ⊤
 AreOfText names (b ∷ bs) = (compiled_block names b.waiting.block.text ≡ Ok b.waiting.block) × AreOfText names bs
 
--- the same of those of a checkpoint, over its names
+-- each waiting block of a checkpoint is what its text checks to over the checkpoint's names
 abbrev pub BlocksAreOfText : CheckpointView → Type 0
 BlocksAreOfText c = AreOfText c.names c.blocks
 

@@ -1,6 +1,7 @@
 //! Histories, written.
 
 ghost use Rattle.std.specs.Prelude.{◌≡◌, ◌<◌, ◌++◌, ◌∷◌, [], IfOk, IfSome, Some, option_map, slice_get, length, string_bytes};
+ghost use Rattle.std.specs.Option.{option_copied};
 ghost use Rattle.stm_store.specs.Naming.{name_numbered};
 ghost use Rattle.stm_event_lines.specs.CheckpointLines.{cell_line, checkpoint_header_line, parts_delivered};
 ghost use Rattle.stm_event_lines.specs.Lines.{header_line};
@@ -80,7 +81,7 @@ fn are_plain_blocks(blocks: &[CheckpointBlock]) -> bool
 
 /// The format of a start whose history declares no variable and labels no block.
 fn format_of_start(checkpoint: Option<&Checkpoint>) -> u32
-    ensures { result ≡ format_of_start (option_map (λ c. c.now) checkpoint.entry) }
+    ensures { result ≡ format_of_start (option_copied checkpoint.entry) }
 {
     match checkpoint {
         None => LATEST_FORMAT,
@@ -97,7 +98,7 @@ fn format_of_start(checkpoint: Option<&Checkpoint>) -> u32
 /// The format in which a history is written: 5 if an event declares a variable or labels a block, or if the checkpoint has a name after
 /// a variable without one, a block with a label, or one of which it is known why it is stale; otherwise 4 with a checkpoint and 3 without.
 pub fn format_for(checkpoint: Option<&Checkpoint>, history: &[Event]) -> u32
-    ensures { result ≡ format_for (option_map (λ c. c.now) checkpoint.entry) history.now }
+    ensures { result ≡ format_for (option_copied checkpoint.entry) history.now }
 {
     if declares(history) || labels_blocks(history) {
         DECLARING_FORMAT
@@ -386,7 +387,7 @@ pub fn write_start<W: Write>(
 ) -> Result<(), WriteFault>
     // The whole text was written, or after a fault a part from its front.
     ensures { WritesText result (W.contents writer.old) (W.contents writer.new)
-        (start_text (record { format = format; table = table.now; checkpoint = option_map (λ c. c.now) checkpoint.entry })) }
+        (start_text (record { format = format; table = table.now; checkpoint = option_copied checkpoint.entry })) }
 {
     match checkpoint {
         None => write_table(alloc, writer, format, table),
@@ -404,7 +405,7 @@ pub fn write_history<W: Write>(
 ) -> Result<(), WriteFault>
     // The whole text was written, or after a fault a part from its front.
     ensures { WritesText result (W.contents writer.old) (W.contents writer.new)
-        (history_text (written_start table.now (option_map (λ c. c.now) checkpoint.entry) history.now) history.now) }
+        (history_text (written_start table.now (option_copied checkpoint.entry) history.now) history.now) }
 {
     let format = format_for(checkpoint, history);
     match write_start(alloc, writer, format, table, checkpoint) {

@@ -8,8 +8,10 @@ use Rattle.stm_lines.proofs.ReadLines.{lines_from-whole, lines_from-last}
 use Rattle.stm_lines.specs.LineClass.{line_class}
 use Rattle.stm_lines.specs.LineReading.{classes_from, IsCommandLine, IsNextLine, IsNoLine}
 use Rattle.stm_lines.specs.Lines.{drop_return}
-use Rattle.stm_lines.specs.TakenLines.{TakesPartOfLine, TakesLastLine, TakesWholeLine}
+use Rattle.stm_lines.specs.TakenLines.{StopsInLine, TakesPartOfLine, TakesLastLine, TakesWholeLine}
 use Rattle.stm_lines.specs.declared.command_lines.CommandLine.TheVariants.{Whole, Last}
+use Rattle.stm_lines.specs.declared.run_fault.RunFault.{RunFault}
+use Rattle.stm_lines.specs.declared.run_fault.RunFault.TheVariants.{NoMemory, Read, Write}
 
 -- ---- a line that is too long, whose rest was skipped
 taken_more : (a b c : Option (List ℕ)) (line bytes : List ℕ) → TakesPartOfLine a b line → TakesPartOfLine b c bytes → TakesPartOfLine a c (line ++ bytes)
@@ -30,9 +32,11 @@ skipped_last a b c line bytes long h w =
     let all = taken_more a b c line bytes h (record { plain = w.plain; taken = w.taken }) in
     (line ++ bytes, record { plain = all.plain; taken = all.taken; at_end = w.at_end }, omega (arith, length-append line bytes), line_class-long_last line bytes long)
 
--- the reader failed in the rest
-pub skipped_part : (a b c : Option (List ℕ)) (line : List ℕ) → TakesPartOfLine a b line → (bytes : List ℕ) × TakesPartOfLine b c bytes → (bytes : List ℕ) × TakesPartOfLine a c bytes
-skipped_part a b c line h k = (line ++ k.0, taken_more a b c line k.0 h k.1)
+-- reading stopped in the rest
+pub stopped_rest : (a b c : Option (List ℕ)) (e : RunFault) (line held bytes : List ℕ) → TakesPartOfLine a b line → StopsInLine e b c held bytes → (all : List ℕ) × StopsInLine e a c held all
+stopped_rest a b c Read line held bytes h k = (line ++ bytes, (taken_more a b c line bytes h k.0, k.1))
+stopped_rest a b c NoMemory line held bytes h k = (line ++ bytes, taken_more a b c line bytes h k)
+stopped_rest a b c Write line held bytes h k = absurd k
 
 -- ---- the lines of an input by their judgement
 pub next_whole : (a b : Option (List ℕ)) (line bytes : List ℕ) → TakesWholeLine a b bytes → line_class line ≡ line_class (drop_return bytes) → IsNextLine a b line

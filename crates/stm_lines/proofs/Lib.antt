@@ -1,4 +1,5 @@
 pub mod AsciiArguments
+pub mod CallsInTurn
 pub mod CommandLines
 pub mod LineFeeds
 pub mod LongLines

@@ -4,6 +4,10 @@ pub mod Lines
 pub mod NumberArgument
 pub mod RunStatus
 -- The words inside, for what is taken of an input line by line.
+pub mod CountedCalls
 pub mod Judged
 pub mod LineReading
+pub mod ReadChunks
 pub mod TakenLines
+pub mod Unread
+pub mod WrittenFronts

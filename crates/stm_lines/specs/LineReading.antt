@@ -1,5 +1,5 @@
 -- What is left of an input whose lines are judged one after another.
-use Rattle.std.specs.Prelude.{◌≡◌, ℕ, ◌<◌, List, [], ◌∷◌, Option, Some, None, ⊤, length, map, IfSome}
+use Rattle.std.specs.Prelude.{◌≡◌, ℕ, ◌<◌, Bool, true, false, List, [], ◌∷◌, Option, Some, None, ⊤, length, map, IfSome}
 use Rattle.stm_lines.specs.LineClass.{LineClass, line_class}
 use Rattle.stm_lines.specs.Lines.{drop_return, lines_from}
 use Rattle.stm_lines.specs.TakenLines.{TakesLastLine, TakesWholeLine}
@@ -27,3 +27,8 @@ IsNextLine (Some all) (Some rest) line = classes_from [] all ≡ line_class line
 -- no line was left
 abbrev pub IsNoLine : Option (List ℕ) → Type 0
 IsNoLine known = IfSome known (λ all. classes_from [] all ≡ [])
+
+-- whether there is a next line, and if so this one
+abbrev pub IsNextLineIf : Bool → Option (List ℕ) → Option (List ℕ) → List ℕ → Type 0
+IsNextLineIf true old new line = IsNextLine old new line
+IsNextLineIf false old new line = IsNoLine old

@@ -21,7 +21,7 @@ lines_from begun (b ∷ bs) = if b == 10 then drop_return begun ∷ lines_from [
 abbrev pub lines_of : List ℕ → List (List ℕ)
 lines_of input = lines_from [] input
 
--- the same of those lines alone that a line feed ends
+-- those of the lines that a line feed ends
 abbrev pub whole_lines_from : List ℕ → List ℕ → List (List ℕ)
 whole_lines_from begun [] = []
 whole_lines_from begun (b ∷ bs) =

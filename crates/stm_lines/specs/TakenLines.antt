@@ -6,6 +6,8 @@ use Rattle.stm_lines.specs.declared.line_reader.Line.{Line}
 use Rattle.stm_lines.specs.declared.line_reader.Line.TheVariants as line
 use Rattle.stm_lines.specs.declared.line_reader.Part.{Part}
 use Rattle.stm_lines.specs.declared.line_reader.Part.TheVariants as part
+use Rattle.stm_lines.specs.declared.run_fault.RunFault.{RunFault}
+use Rattle.stm_lines.specs.declared.run_fault.RunFault.TheVariants as fault
 
 -- a line feed is among the bytes
 abbrev pub HasLineFeed : List ℕ → Type 0
@@ -38,6 +40,13 @@ IsRead line.End limit old new bytes = TakesLastLine old new bytes × (bytes ≡ 
 abbrev pub IsSkipped : Bool → Option (List ℕ) → Option (List ℕ) → Type 0
 IsSkipped true old new = (bytes : List ℕ) × TakesWholeLine old new bytes
 IsSkipped false old new = (bytes : List ℕ) × TakesLastLine old new bytes
+
+-- reading stopped in a line, of which these bytes were taken; after a failed read the reader holds no byte more. Reading never fails as
+-- writing does
+abbrev pub StopsInLine : RunFault → Option (List ℕ) → Option (List ℕ) → List ℕ → List ℕ → Type 0
+StopsInLine fault.Read old new held bytes = TakesPartOfLine old new bytes × (held ≡ [])
+StopsInLine fault.NoMemory old new held bytes = TakesPartOfLine old new bytes
+StopsInLine fault.Write old new held bytes = ⊥
 
 -- ---- inside the reader
 -- at most this many bytes are still to come, with these calls of the reader left and these bytes in the chunk

@@ -1,8 +1,9 @@
 //! The reader of a run, and how often it may still be called.
 
-ghost use Rattle.std.specs.Prelude.{◌≡◌, ◌↔◌, ◌+◌, ◌<◌, IsTrue};
+ghost use Rattle.std.specs.Prelude.{◌≡◌, ◌↔◌, ◌<◌, IsTrue};
 ghost use Rattle.std.specs.Io.{ReadsAtMost};
 ghost use Rattle.std.specs.Io.KnownBytes.{ReadConsumes};
+ghost use Rattle.stm_lines.specs.CountedCalls.{CountsOneCall};
 
 use crate::steps::Steps;
 use std::io;
@@ -19,7 +20,7 @@ pub struct Calls<'a, R, L: Ledger> {
 }
 
 impl<'a, R: Read, L: Ledger> Calls<'a, R, L> {
-    /// All calls of a reader, each counted among the steps.
+    /// All calls of a reader, each counted among the steps. Both references stay those of the caller.
     pub fn new(reader: &'a mut R, steps: &'a mut Steps<L>) -> Calls<'a, R, L>
         ensures same_reader { result.reader.ghost_name ≡ reader.entry.ghost_name }
         ensures same_steps { result.steps.ghost_name ≡ steps.entry.ghost_name }
@@ -44,10 +45,7 @@ impl<'a, R: Read, L: Ledger> Calls<'a, R, L> {
     /// Calls the reader.
     pub fn read(&mut self, buffer: &mut [u8]) -> io::Result<usize>
         requires { 0 < self.old.left }
-        ensures same_reader { self.new.reader.ghost_name ≡ self.old.reader.ghost_name }
-        ensures same_steps { self.new.steps.ghost_name ≡ self.old.steps.ghost_name }
-        ensures one_less { self.new.left + 1 ≡ self.old.left }
-        ensures counted { self.new.steps.now ≡ self.old.steps.now + 1 }
+        ensures called { CountsOneCall self.old self.new }
         ensures bound { ReadsAtMost result buffer.new }
         ensures bytes { ReadConsumes (R.remaining self.old.reader.now)
             (R.remaining self.new.reader.now) result buffer.new }

@@ -1,8 +1,9 @@
 //! Bytes of the input that are read and not yet taken.
 
-ghost use Rattle.std.specs.Prelude.{◌≡◌, ◌+◌, ◌<◌, ◌≤◌, [], drop, length, IfOk, IfSome, OnErr, OnOk};
-ghost use Rattle.std.specs.Io.KnownBytes.{Consumes, IsAtEnd, Keeps};
+ghost use Rattle.std.specs.Prelude.{◌≡◌, ◌<◌, ◌≤◌, [], drop, length, IfSome};
 ghost use Rattle.memchr.specs.Find.{IsFirstByte, is_byte};
+ghost use Rattle.stm_lines.specs.CountedCalls.{CountsOneCall};
+ghost use Rattle.stm_lines.specs.ReadChunks.{ReadsChunk};
 
 use crate::calls::Calls;
 use memchr::memchr;
@@ -77,18 +78,10 @@ impl Chunk {
     /// Reads the next bytes in place of those that were there, and returns how many they are: none only at the end.
     pub fn read<R: Read, L: Ledger>(&mut self, calls: &mut Calls<R, L>) -> io::Result<usize>
         requires { 0 < calls.old.left }
-        ensures same_reader { calls.new.reader.ghost_name ≡ calls.old.reader.ghost_name }
-        ensures same_steps { calls.new.steps.ghost_name ≡ calls.old.steps.ghost_name }
-        ensures one_less { calls.new.left + 1 ≡ calls.old.left }
-        ensures counted { calls.new.steps.now ≡ calls.old.steps.now + 1 }
+        ensures called { CountsOneCall calls.old calls.new }
         ensures few { length self.new ≤ CHUNK }
-        ensures bytes { OnOk result (Consumes (R.remaining calls.old.reader.now)
-            (R.remaining calls.new.reader.now) self.new) }
-        ensures end { IfOk result (λ n. n ≡ 0 →
-            (self.new ≡ []) × IsAtEnd (R.remaining calls.new.reader.now)) }
-        ensures kept { OnErr result (Keeps (R.remaining calls.old.reader.now)
-            (R.remaining calls.new.reader.now)) }
-        ensures none { OnErr result (self.new ≡ []) }
+        ensures read { ReadsChunk result (R.remaining calls.old.reader.now)
+            (R.remaining calls.new.reader.now) self.new }
     {
         self.at = 0;
         self.end = 0;

@@ -1,9 +1,10 @@
 //! The lines of runs and scripts, which have a carriage return dropped and are read to their ends, however long they are.
 
-ghost use Rattle.std.specs.Prelude.{◌≡◌, ◌≢◌, ◌+◌, ◌<◌, ◌≤◌, [], ℕ, length, List, IfErr, IfOk, IsErrOf, MatchBool, Ok, OnErr, Option};
-ghost use Rattle.std.specs.Io.KnownBytes.{prepend_known};
-ghost use Rattle.stm_lines.specs.LineReading.{IsCommandLine, IsNextLine, IsNoLine};
-ghost use Rattle.stm_lines.specs.TakenLines.{bytes_to_come, TakesPartOfLine};
+ghost use Rattle.std.specs.Prelude.{◌≡◌, ◌≢◌, ◌<◌, ◌≤◌, ℕ, length, List, IfErr, IfOk, Ok, Option};
+ghost use Rattle.stm_lines.specs.CountedCalls.{CountsCalls};
+ghost use Rattle.stm_lines.specs.LineReading.{IsCommandLine, IsNextLineIf};
+ghost use Rattle.stm_lines.specs.TakenLines.{StopsInLine, TakesPartOfLine};
+ghost use Rattle.stm_lines.specs.Unread.{most_unread, unread};
 
 use crate::calls::Calls;
 use crate::line_reader::{Line, LineReader};
@@ -31,24 +32,18 @@ fn skip_rest<R: Read, L: Ledger>(
     calls: &mut Calls<R, L>,
 ) -> Result<CommandLine, RunFault>
     requires { 65538 ≤ length lines.old.line.items }
-    ensures same_reader { calls.new.reader.ghost_name ≡ calls.old.reader.ghost_name }
-    ensures same_steps { calls.new.steps.ghost_name ≡ calls.old.steps.ghost_name }
-    ensures counted { calls.new.steps.now + calls.new.left
-        ≡ calls.old.steps.now + calls.old.left }
-    ensures shorter { result ≡ Ok CommandLine.Whole →
-        bytes_to_come calls.new.left lines.new.chunk
-        < bytes_to_come calls.old.left lines.old.chunk }
-    ensures line { IfOk result (λ line. (all : Option (List ℕ)) → TakesPartOfLine all
-        (prepend_known lines.old.chunk (R.remaining calls.old.reader.now))
-        lines.old.line.items → IsCommandLine line all
-        (prepend_known lines.new.chunk (R.remaining calls.new.reader.now))
-        lines.new.line.items) }
-    ensures begun { OnErr result ((all : Option (List ℕ)) → TakesPartOfLine all
-        (prepend_known lines.old.chunk (R.remaining calls.old.reader.now))
-        lines.old.line.items → (bytes : List ℕ) × TakesPartOfLine all
-        (prepend_known lines.new.chunk (R.remaining calls.new.reader.now)) bytes) }
-    ensures none { OnErr result (lines.new.chunk ≡ []) }
-    ensures fault { IfErr result (λ e. e ≡ RunFault.Read) }
+    // If the bytes of the line that are kept are all that was taken of an input.
+    ensures line { IfOk result (λ line. (all : Option (List ℕ)) →
+        TakesPartOfLine all (unread R.remaining lines.old calls.old) lines.old.line.items →
+        IsCommandLine line all (unread R.remaining lines.new calls.new) lines.new.line.items) }
+    ensures fault { IfErr result (λ e. (all : Option (List ℕ)) →
+        TakesPartOfLine all (unread R.remaining lines.old calls.old) lines.old.line.items →
+        (bytes : List ℕ) × StopsInLine e all (unread R.remaining lines.new calls.new)
+        lines.new.chunk bytes) }
+    ensures read { IfErr result (λ e. e ≡ RunFault.Read) }
+    ensures called { CountsCalls calls.old calls.new }
+    ensures shorter { result ≡ Ok CommandLine.Whole
+        → most_unread lines.new calls.new < most_unread lines.old calls.old }
 {
     match lines.skip_line(calls) {
         Ok(true) => Ok(CommandLine::Whole),
@@ -63,23 +58,16 @@ pub fn next_command_line<R: Read, L: Ledger>(
     lines: &mut LineReader,
     calls: &mut Calls<R, L>,
 ) -> Result<CommandLine, RunFault>
-    ensures same_reader { calls.new.reader.ghost_name ≡ calls.old.reader.ghost_name }
-    ensures same_steps { calls.new.steps.ghost_name ≡ calls.old.steps.ghost_name }
-    ensures counted { calls.new.steps.now + calls.new.left
-        ≡ calls.old.steps.now + calls.old.left }
-    ensures shorter { result ≡ Ok CommandLine.Whole →
-        bytes_to_come calls.new.left lines.new.chunk
-        < bytes_to_come calls.old.left lines.old.chunk }
     ensures line { IfOk result (λ line. IsCommandLine line
-        (prepend_known lines.old.chunk (R.remaining calls.old.reader.now))
-        (prepend_known lines.new.chunk (R.remaining calls.new.reader.now))
+        (unread R.remaining lines.old calls.old) (unread R.remaining lines.new calls.new)
         lines.new.line.items) }
     // After a fault only bytes of one line were taken, and no line feed; after that of a read, all that was read.
-    ensures begun { OnErr result ((bytes : List ℕ) × TakesPartOfLine
-        (prepend_known lines.old.chunk (R.remaining calls.old.reader.now))
-        (prepend_known lines.new.chunk (R.remaining calls.new.reader.now)) bytes) }
-    ensures read_fault { IsErrOf result RunFault.Read → lines.new.chunk ≡ [] }
-    ensures fault { IfErr result (λ e. e ≢ RunFault.Write) }
+    ensures fault { IfErr result (λ e. (bytes : List ℕ) × StopsInLine e
+        (unread R.remaining lines.old calls.old) (unread R.remaining lines.new calls.new)
+        lines.new.chunk bytes) }
+    ensures called { CountsCalls calls.old calls.new }
+    ensures shorter { result ≡ Ok CommandLine.Whole
+        → most_unread lines.new calls.new < most_unread lines.old calls.old }
 {
     match lines.next_line(calls, MOST_KEPT) {
         Ok(Line::Whole) => {
@@ -98,12 +86,10 @@ pub fn has_next_line<R: Read, L: Ledger>(
     lines: &mut LineReader,
     calls: &mut Calls<R, L>,
 ) -> Result<bool, RunFault>
-    // What was left begins with the line, or one that is judged as it is, and goes on with what is left.
-    ensures line { IfOk result (λ some. MatchBool some
-        (IsNextLine (prepend_known lines.old.chunk (R.remaining calls.old.reader.now))
-        (prepend_known lines.new.chunk (R.remaining calls.new.reader.now))
-        lines.new.line.items)
-        (IsNoLine (prepend_known lines.old.chunk (R.remaining calls.old.reader.now)))) }
+    // What was unread begins with the line, or one that is judged as it is, and goes on with what is unread now.
+    ensures line { IfOk result (λ some. IsNextLineIf some
+        (unread R.remaining lines.old calls.old) (unread R.remaining lines.new calls.new)
+        lines.new.line.items) }
     ensures fault { IfErr result (λ e. e ≢ RunFault.Write) }
 {
     match next_command_line(lines, calls) {

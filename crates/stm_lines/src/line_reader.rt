@@ -1,10 +1,12 @@
 //! Lines pulled from a reader, as they are.
 
-ghost use Rattle.std.specs.Prelude.{◌≡◌, ◌≢◌, ◌++◌, ◌+◌, ◌↔◌, [], ◌<◌, ◌≤◌, ℕ, List, drop, false, true, length, take, IfErr, IfOk, IsErrOf, IsTrue, Ok, OnErr, OnOk, Some};
-ghost use Rattle.std.specs.Io.KnownBytes.{Consumes, IsAtEnd, Keeps, prepend_known};
+ghost use Rattle.std.specs.Prelude.{◌≡◌, ◌++◌, ◌+◌, ◌↔◌, [], ◌<◌, ◌≤◌, ℕ, List, drop, false, true, length, take, IfErr, IfOk, IsTrue, Ok, OnErr, OnOk, Some};
+ghost use Rattle.std.specs.Io.KnownBytes.{Consumes, IsAtEnd, Keeps};
 ghost use Rattle.memchr.specs.Find.{IsFirstByte, is_byte};
+ghost use Rattle.stm_lines.specs.CountedCalls.{CountsCalls};
 ghost use Rattle.stm_lines.specs.Lines.{drop_return as returnless, NoLineFeed};
-ghost use Rattle.stm_lines.specs.TakenLines.{bytes_to_come, TakesPartOfLine, HasLineFeed, IsPart, IsRead, IsSkipped, IsSkippedPart};
+ghost use Rattle.stm_lines.specs.TakenLines.{HasLineFeed, IsPart, IsRead, IsSkipped, IsSkippedPart, StopsInLine};
+ghost use Rattle.stm_lines.specs.Unread.{most_unread, unread};
 
 use crate::calls::Calls;
 use crate::chunk::Chunk;
@@ -147,9 +149,7 @@ fn skip_part(chunk: &mut Chunk) -> bool
 /// Reads the next bytes; returns whether there are any. An interrupted read is tried again.
 fn fill<R: Read, L: Ledger>(chunk: &mut Chunk, calls: &mut Calls<R, L>) -> Result<bool, RunFault>
     requires { chunk.old ≡ [] }
-    ensures same_reader { calls.new.reader.ghost_name ≡ calls.old.reader.ghost_name }
-    ensures same_steps { calls.new.steps.ghost_name ≡ calls.old.steps.ghost_name }
-    ensures counted { calls.new.steps.now + calls.new.left ≡ calls.old.steps.now + calls.old.left }
+    ensures called { CountsCalls calls.old calls.new }
     ensures fewer { OnOk result (calls.new.left < calls.old.left) }
     ensures few { OnOk result (length chunk.new ≤ 65536) }
     ensures bytes { OnOk result (Consumes (R.remaining calls.old.reader.now)
@@ -210,28 +210,20 @@ impl LineReader {
         calls: &mut Calls<R, L>,
         limit: usize,
     ) -> Result<Line, RunFault>
-        ensures same_reader { calls.new.reader.ghost_name ≡ calls.old.reader.ghost_name }
-        ensures same_steps { calls.new.steps.ghost_name ≡ calls.old.steps.ghost_name }
-        ensures counted { calls.new.steps.now + calls.new.left
-            ≡ calls.old.steps.now + calls.old.left }
+        ensures line { IfOk result (λ line. IsRead line limit
+            (unread R.remaining self.old calls.old) (unread R.remaining self.new calls.new)
+            self.new.line.items) }
+        // The line has the bytes that were taken of it.
+        ensures fault { IfErr result (λ e. StopsInLine e
+            (unread R.remaining self.old calls.old) (unread R.remaining self.new calls.new)
+            self.new.chunk self.new.line.items) }
+        ensures called { CountsCalls calls.old calls.new }
         // No call is made if the line is whole in the bytes that were read.
         ensures buffered { HasLineFeed self.old.chunk → calls.new.left ≡ calls.old.left }
-        ensures fewer { OnOk result (bytes_to_come calls.new.left self.new.chunk
-            ≤ bytes_to_come calls.old.left self.old.chunk) }
-        ensures shorter { result ≡ Ok Line.Whole →
-            bytes_to_come calls.new.left self.new.chunk + length self.new.line.items
-            < bytes_to_come calls.old.left self.old.chunk }
-        ensures line { IfOk result (λ line. IsRead line limit
-            (prepend_known self.old.chunk (R.remaining calls.old.reader.now))
-            (prepend_known self.new.chunk (R.remaining calls.new.reader.now))
-            self.new.line.items) }
-        // After a fault the line has the bytes that were taken of it.
-        ensures begun { OnErr result (TakesPartOfLine
-            (prepend_known self.old.chunk (R.remaining calls.old.reader.now))
-            (prepend_known self.new.chunk (R.remaining calls.new.reader.now))
-            self.new.line.items) }
-        ensures read_fault { IsErrOf result RunFault.Read → self.new.chunk ≡ [] }
-        ensures fault { IfErr result (λ e. e ≢ RunFault.Write) }
+        ensures fewer { OnOk result (most_unread self.new calls.new ≤ most_unread self.old calls.old) }
+        // By more than the bytes of a line that a line feed ended.
+        ensures shorter { result ≡ Ok Line.Whole → most_unread self.new calls.new
+            + length self.new.line.items < most_unread self.old calls.old }
     {
         self.line.clear();
         'parts: loop {
@@ -256,24 +248,16 @@ impl LineReader {
         &mut self,
         calls: &mut Calls<R, L>,
     ) -> Result<bool, RunFault>
-        ensures same_reader { calls.new.reader.ghost_name ≡ calls.old.reader.ghost_name }
-        ensures same_steps { calls.new.steps.ghost_name ≡ calls.old.steps.ghost_name }
-        ensures counted { calls.new.steps.now + calls.new.left
-            ≡ calls.old.steps.now + calls.old.left }
         ensures same_line { self.new.line.items ≡ self.old.line.items }
-        ensures fewer { OnOk result (bytes_to_come calls.new.left self.new.chunk
-            ≤ bytes_to_come calls.old.left self.old.chunk) }
-        ensures shorter { result ≡ Ok true →
-            bytes_to_come calls.new.left self.new.chunk
-            < bytes_to_come calls.old.left self.old.chunk }
         ensures skipped { IfOk result (λ feed. IsSkipped feed
-            (prepend_known self.old.chunk (R.remaining calls.old.reader.now))
-            (prepend_known self.new.chunk (R.remaining calls.new.reader.now))) }
-        ensures begun { OnErr result ((bytes : List ℕ) × TakesPartOfLine
-            (prepend_known self.old.chunk (R.remaining calls.old.reader.now))
-            (prepend_known self.new.chunk (R.remaining calls.new.reader.now)) bytes) }
-        ensures none { OnErr result (self.new.chunk ≡ []) }
-        ensures fault { IfErr result (λ e. e ≡ RunFault.Read) }
+            (unread R.remaining self.old calls.old) (unread R.remaining self.new calls.new)) }
+        ensures fault { IfErr result (λ e. (e ≡ RunFault.Read) × (bytes : List ℕ) × StopsInLine e
+            (unread R.remaining self.old calls.old) (unread R.remaining self.new calls.new)
+            self.new.chunk bytes) }
+        ensures called { CountsCalls calls.old calls.new }
+        ensures fewer { OnOk result (most_unread self.new calls.new ≤ most_unread self.old calls.old) }
+        ensures shorter { result ≡ Ok true
+            → most_unread self.new calls.new < most_unread self.old calls.old }
     {
         'parts: loop {
             if skip_part(&mut self.chunk) {

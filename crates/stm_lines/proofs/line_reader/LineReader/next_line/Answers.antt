@@ -1,13 +1,14 @@
-use Rattle.std.proofs.Common.{◌∙◌, eqb-true, sym, vec_len, arith}
+use Rattle.std.proofs.Common.{eqb-true, sym, vec_len, arith}
 use Rattle.std.proofs.lemmas.List.{nil_from_length}
 use Rattle.std.proofs.lemmas.Result.{err_from_is_err_and}
+use Rattle.stm_lines.proofs.CallsInTurn.{CountsCalls-trans}
 use Rattle.stm_lines.proofs.TakenParts.{TakesPartOfLine-kept, TakesPartOfLine-refilled, TakesLastLine-ended, whole_taken, too_long_taken, all_taken, not_empty}
 use Rattle.stm_lines.proofs.line_reader.LineReader.next_line.Goals as goal
 
-pub returns-in_err-take_part-clause-begun : goal.returns-in_err-take_part-clause-begun
-returns-in_err-take_part-clause-begun g c =
+pub returns-in_err-take_part-clause-fault : goal.returns-in_err-take_part-clause-fault
+returns-in_err-take_part-clause-fault g c =
     let p = err_from_is_err_and c.from_residual.result c.from_residual.ensures.1 in
-    rw (p.1, c.in_err-take_part.ensures.same_line, c.in_err-take_part.ensures.same_chunk) c.parts.invariant.begun
+    rw (p.1, p.2, c.in_err-take_part.ensures.fault, c.in_err-take_part.ensures.same_line, c.in_err-take_part.ensures.same_chunk) c.parts.invariant.begun
 
 pub returns-in-Whole-clause-shorter : goal.returns-in-Whole-clause-shorter
 returns-in-Whole-clause-shorter g c =
@@ -34,11 +35,14 @@ returns-in-TooLong-clause-line g c =
     let s = too_long_taken c.args.limit c.in_ok-take_part.field-0 _ _ c.parts.self.line.items c.take_part.new.line.items c.parts.self.chunk c.take_part.new.chunk c.parts.invariant.begun c.in-TooLong.is c.in_ok-take_part.ensures.part in
     (s.0, s.1)
 
-pub returns-in_err-fill-clause-begun : goal.returns-in_err-fill-clause-begun
-returns-in_err-fill-clause-begun g c =
+pub returns-in_err-fill-clause-fault : goal.returns-in_err-fill-clause-fault
+returns-in_err-fill-clause-fault g c =
     let p = err_from_is_err_and c.from_residual-in_err-fill.result c.from_residual-in_err-fill.ensures.1 in
     let s = all_taken c.args.limit c.in_ok-take_part.field-0 _ _ c.parts.self.line.items c.take_part.new.line.items c.parts.self.chunk c.take_part.new.chunk c.parts.invariant.begun c.in-More.is c.in_ok-take_part.ensures.part in
-    rw p.1 (TakesPartOfLine-kept _ _ _ c.take_part.new.line.items c.take_part.new.chunk c.fill.new.chunk s.0 s.4 c.in_err-fill.ensures.kept c.in_err-fill.ensures.none)
+    rw (p.1, p.2, c.in_err-fill.ensures.fault) (
+      TakesPartOfLine-kept _ _ _ c.take_part.new.line.items c.take_part.new.chunk c.fill.new.chunk s.0 s.4 c.in_err-fill.ensures.kept c.in_err-fill.ensures.none,
+      c.in_err-fill.ensures.none,
+    )
 
 pub returns-then-is_empty-clause-line : goal.returns-then-is_empty-clause-line
 returns-then-is_empty-clause-line g c =
@@ -70,7 +74,5 @@ parts-preserved g c =
       short = s.1;
       fewer = omega (arith, c.in_ok-fill.ensures.fewer, c.in_ok-fill.ensures.few, i.fewer, s.2);
       buffered = λ f. absurd ((i.buffered f).0 s.3);
-      same_reader = c.in_ok-fill.ensures.same_reader ∙ i.same_reader;
-      same_steps = c.in_ok-fill.ensures.same_steps ∙ i.same_steps;
-      counted = omega (arith, c.in_ok-fill.ensures.counted, i.counted);
+      called = CountsCalls-trans i.called c.in_ok-fill.ensures.called;
     }

@@ -1,5 +1,6 @@
 use Rattle.std.proofs.Common.{◌≡◌, ◌+◌, ◌≤◌, length}
 use Rattle.std.specs.Io.KnownBytes.{prepend_known}
+use Rattle.stm_lines.specs.CountedCalls.{CountsCalls}
 use Rattle.stm_lines.specs.TakenLines.{bytes_to_come, TakesPartOfLine, HasLineFeed}
 use Rattle.stm_lines.proofs.line_reader.LineReader.next_line.Given as goal
 
@@ -10,9 +11,7 @@ invariant-parts g l = record {
   short : length l.self.line.items ≤ l.limit;
   fewer : bytes_to_come l.calls.left l.self.chunk + length l.self.line.items ≤ bytes_to_come l.initial.calls.left l.initial.self.chunk;
   buffered : HasLineFeed l.initial.self.chunk → HasLineFeed l.self.chunk × (l.calls.left ≡ l.initial.calls.left);
-  same_reader : l.calls.reader.ghost_name ≡ l.initial.calls.reader.ghost_name;
-  same_steps : l.calls.steps.ghost_name ≡ l.initial.calls.steps.ghost_name;
-  counted : l.calls.steps.now + l.calls.left ≡ l.initial.calls.steps.now + l.initial.calls.left;
+  called : CountsCalls l.initial.calls l.calls;
 }
 
 abbrev pub decreases-parts : goal.decreases-parts

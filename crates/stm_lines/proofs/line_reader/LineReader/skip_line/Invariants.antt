@@ -1,5 +1,6 @@
 use Rattle.std.proofs.Common.{◌≡◌, ℕ, ◌+◌, ◌≤◌, List}
 use Rattle.std.specs.Io.KnownBytes.{prepend_known}
+use Rattle.stm_lines.specs.CountedCalls.{CountsCalls}
 use Rattle.stm_lines.specs.TakenLines.{bytes_to_come, TakesPartOfLine}
 use Rattle.stm_lines.proofs.line_reader.LineReader.skip_line.Given as goal
 
@@ -9,9 +10,7 @@ invariant-parts g l = record {
       (prepend_known l.self.chunk (g.R.Read.remaining l.calls.reader.now)) bytes;
   same_line : l.self.line.items ≡ l.initial.self.line.items;
   fewer : bytes_to_come l.calls.left l.self.chunk ≤ bytes_to_come l.initial.calls.left l.initial.self.chunk;
-  same_reader : l.calls.reader.ghost_name ≡ l.initial.calls.reader.ghost_name;
-  same_steps : l.calls.steps.ghost_name ≡ l.initial.calls.steps.ghost_name;
-  counted : l.calls.steps.now + l.calls.left ≡ l.initial.calls.steps.now + l.initial.calls.left;
+  called : CountsCalls l.initial.calls l.calls;
 }
 
 abbrev pub decreases-parts : goal.decreases-parts
