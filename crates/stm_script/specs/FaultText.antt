@@ -22,7 +22,7 @@ parse_fault_name parse.TooDeep = codes "TooDeep"
 parse_fault_name parse.TooLarge = codes "TooLarge"
 parse_fault_name parse.NoMemory = codes "NoMemory"
 
--- its place, in bytes from 0 in the argument
+-- the place of a fault of the grammar, in bytes from 0 in the argument
 abbrev pub parse_fault_place : ParseFault → Option ℕ
 parse_fault_place (parse.BadByte n) = Some n
 parse_fault_place (parse.BadNumber n) = Some n
@@ -42,7 +42,7 @@ type_fault_name (typed.Untyped n) = codes "Untyped"
 type_fault_name (typed.TypeTooDeep n) = codes "TypeTooDeep"
 type_fault_name typed.NoMemory = codes "NoMemory"
 
--- its place
+-- the place of a fault of types
 abbrev pub type_fault_place : TypeFault → Option ℕ
 type_fault_place (typed.Unknown n) = Some n
 type_fault_place (typed.Mismatch n) = Some n

@@ -1,5 +1,6 @@
 -- The code's script under way, and what its calls return, by the definitions of scripts.
 use Rattle.std.specs.Prelude.{◌≡◌, ◌≤◌, ℕ, ◌+◌, nat_lt, List, [], ◌∷◌, ◌++◌, Option, Some, None, Result, Ok, Err, length, map, if◌then◌else◌, ⊤}
+use Rattle.stm_terms.specs.UnlessNoMemory.{AnswersUnless}
 use Rattle.stm_source.specs.declared.refusal.Refusal.{Refusal}
 use Rattle.stm_source.specs.OutOfMemory.{IsOutOfMemory}
 use Rattle.stm_store.specs.Tables.{Declared}
@@ -7,7 +8,7 @@ use Rattle.stm_script.specs.declared.section.Section.{Section}
 use Rattle.stm_script.specs.declared.section.Task.{Task}
 use Rattle.stm_script.specs.Limits.{max_sections}
 use Rattle.stm_script.specs.declared.script_line.LineFault.{LineFault}
-use Rattle.stm_script.specs.declared.script_line.LineFault.TheVariants.{Faulty}
+use Rattle.stm_script.specs.declared.script_line.LineFault.TheVariants.{Faulty, NoMemory}
 use Rattle.stm_script.specs.declared.script_fault.Reason.{Reason}
 use Rattle.stm_script.specs.declared.script_fault.Reason.TheVariants.{Refused, ScriptTooLong}
 use Rattle.stm_script.specs.declared.script_fault.ScriptFault.{ScriptFault}
@@ -22,10 +23,18 @@ abbrev pub or_faulty : {Y : Type 0} → Result Y Reason → Result Y LineFault
 or_faulty (Ok y) = Ok y
 or_faulty (Err why) = Err (Faulty why)
 
--- the same of a block, a variable or an expectation
+-- what the definitions of blocks, variables and expectations give, as the calls return it: a refusal makes the line faulty
 abbrev pub or_refused : {Y : Type 0} → Result Y Refusal → Result Y LineFault
 or_refused (Ok y) = Ok y
 or_refused (Err refusal) = Err (Faulty (Refused refusal))
+
+-- a line, or a part of it, leads to the script under way that the definitions give, or is faulty for the reason that they give, unless memory ran out
+abbrev pub ComesTo : Result Unit LineFault → PartialScript → Result PartialScript Reason → Type 0
+ComesTo result script answer = AnswersUnless NoMemory (λ _. script) result (or_faulty answer)
+
+-- a text reads to what the definitions give, or makes its line faulty by the refusal that they give, unless memory ran out
+abbrev pub ReadsTo : {Y : Type 0} → Result Y LineFault → Result Y Refusal → Type 0
+ReadsTo result answer = AnswersUnless NoMemory (λ y. y) result (or_refused answer)
 
 -- a declaration puts the variable after the others; a refusal leaves them as they were, unless memory ran out
 abbrev pub DeclaresNext : List Declared → Result Unit Refusal → List Declared → Result Declared Refusal → Type 0
@@ -40,7 +49,7 @@ tasks_of s = s.tasks.items
 abbrev pub reading_of : ScriptSoFar → PartialScript
 reading_of s = record { table = s.variables; ended = map tasks_of s.ended.items; begun = s.begun }
 
--- the same if a section has begun
+-- a script under way in which a section has begun
 abbrev pub reading_in : List Declared → List (List Task) → Begun → PartialScript
 reading_in table ended b = record { table = table; ended = ended; begun = Some b }
 

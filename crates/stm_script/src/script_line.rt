@@ -1,7 +1,6 @@
 //! What a line of a storm's script says.
 
 ghost use Rattle.std.specs.Prelude.{◌≡◌, ◌<◌, ◌⊎◌, length, slice_get};
-ghost use Rattle.stm_terms.specs.UnlessNoMemory.{AnswersUnless};
 ghost use Rattle.stm_parse.specs.Declarations.{parsed_initial};
 ghost use Rattle.stm_parse.specs.ExpectationFunction.{parsed_expectation};
 ghost use Rattle.stm_lines.specs.NumberArgument.{number_argument};
@@ -9,7 +8,7 @@ ghost use Rattle.stm_source.specs.CompiledBlock.{compiled_block};
 ghost use Rattle.stm_source.specs.DeclaredVariable.{initial as initial_of};
 ghost use Rattle.stm_source.specs.OutOfMemory.{IsOutOfMemory};
 ghost use Rattle.stm_store.specs.Naming.{named_in_table};
-ghost use Rattle.stm_script.specs.ScriptReading.{or_refused};
+ghost use Rattle.stm_script.specs.ScriptReading.{or_refused, ReadsTo};
 ghost use Rattle.stm_script.specs.StormScript.{submission_of, expected_at, expected_task};
 
 use crate::script_fault::Reason;
@@ -57,8 +56,7 @@ pub fn submitted_block(
     variables: &Variables,
     text: &str,
 ) -> Result<SharedBlock, LineFault>
-    ensures { AnswersUnless LineFault.NoMemory (λ b. b) result
-        (or_refused (compiled_block (named_in_table variables.now) text.now)) }
+    ensures { ReadsTo result (compiled_block (named_in_table variables.now) text.now) }
 {
     match compile_block(alloc, variables.names(), text) {
         Ok(block) => match SharedBlock::new(alloc, block) {
@@ -100,8 +98,7 @@ fn expected_value(table: &Table, number: u32, init: &Init) -> Result<Task, LineF
 
 /// What an `expect` expects.
 pub fn expectation(alloc: Global, table: &Table, text: &str) -> Result<Task, LineFault>
-    ensures { AnswersUnless LineFault.NoMemory (λ t. t) result
-        (or_refused (expected_task table.now (parsed_expectation text.now))) }
+    ensures { ReadsTo result (expected_task table.now (parsed_expectation text.now)) }
 {
     match parse_expectation(alloc, text) {
         Ok(expectation) => match table.find(expectation.name.as_str()) {
