@@ -7,7 +7,7 @@ use Rattle.std.proofs.lemmas.Bool.{le-ltb}
 use Rattle.stm_terms.specs.Texts.{IsPrefixOf}
 use Rattle.stm_journal.specs.declared.sync_mode.SyncMode.{SyncMode}
 use Rattle.stm_lines.specs.LineClass.{line_class}
-use Rattle.stm_history_text.specs.HistoryText.{WritesFront}
+use Rattle.stm_lines.specs.WrittenFronts.{WritesFront}
 use Rattle.stm_lines.specs.declared.run_fault.RunFault.{RunFault}
 use Rattle.stm_lines.specs.declared.run_fault.RunFault.TheVariants.{Read}
 use Rattle.stm_run.specs.declared.console.Console.{Console}

@@ -1,9 +1,7 @@
 -- What a run keeps while it takes its input line by line.
 use Rattle.std.specs.Prelude.{◌≡◌, ℕ, Bool, List, ◌++◌, Option, Some, IfSome, MatchBool}
-use Rattle.std.specs.Io.KnownBytes.{Appends, Consumes, prepend_known}
+use Rattle.std.specs.Io.KnownBytes.{Appends, Consumes}
 use Rattle.stm_terms.specs.Texts.{IsPrefixOf}
-use Rattle.stm_lines.specs.declared.calls.Calls.{Calls}
-use Rattle.stm_lines.specs.declared.line_reader.LineReader.{LineReader}
 use Rattle.stm_lines.specs.Lines.{lines_of, whole_lines_of}
 use Rattle.stm_run.specs.declared.console.Console.{Console}
 use Rattle.stm_run.specs.declared.session.Session.{Session}
@@ -32,10 +30,6 @@ pub record RunState : Type 0 where
 -- with the console of a session
 abbrev pub run_state : Session → Option (List ℕ) → Option (List ℕ) → RunState
 run_state session rest written = record { console = session.console; rest = rest; written = written }
-
--- what is still to be read: the bytes that a line reader holds, and what remains in the reader that it calls
-abbrev pub unread : {R L : Type 0} → (R → Option (List ℕ)) → LineReader → Calls R L → Option (List ℕ)
-unread remaining lines calls = prepend_known lines.chunk (remaining calls.reader.now)
 
 -- ---- how it goes on
 -- lines of the input were taken, and their answers written

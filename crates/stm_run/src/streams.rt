@@ -5,8 +5,9 @@ ghost use Rattle.std.specs.Io.KnownBytes.{Appends, Keeps};
 ghost use Rattle.stm_terms.specs.Texts.{IsPrefixOf};
 ghost use Rattle.stm_run.specs.Console.{console_text, whole_lines_text};
 ghost use Rattle.stm_options.specs.Options.{AreRunOptions};
-ghost use Rattle.stm_run.specs.Streaming.{HasAnsweredAll, HasAnsweredNext, HasAnsweredPart, HasAnsweredWhole, run_state, unread};
+ghost use Rattle.stm_run.specs.Streaming.{HasAnsweredAll, HasAnsweredNext, HasAnsweredPart, HasAnsweredWhole, run_state};
 ghost use Rattle.stm_lines.specs.TakenLines.{bytes_to_come};
+ghost use Rattle.stm_lines.specs.Unread.{unread};
 
 use crate::limit::EventLimit;
 use crate::session::Session;

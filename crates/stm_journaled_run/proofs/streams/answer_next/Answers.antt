@@ -60,10 +60,10 @@ pub returns-in-Ok-clause-because : goal.returns-in-Ok-clause-because
 returns-in-Ok-clause-because g c = c.answer_line.ensures.because
 
 pub returns-in-Ok-clause-same_reader : goal.returns-in-Ok-clause-same_reader
-returns-in-Ok-clause-same_reader g c = c.next_command_line.ensures.same_reader
+returns-in-Ok-clause-same_reader g c = c.next_command_line.ensures.called.same_reader
 
 pub returns-in-Ok-clause-same_steps : goal.returns-in-Ok-clause-same_steps
-returns-in-Ok-clause-same_steps g c = c.next_command_line.ensures.same_steps
+returns-in-Ok-clause-same_steps g c = c.next_command_line.ensures.called.same_steps
 
 pub returns-in-Ok-clause-shorter : goal.returns-in-Ok-clause-shorter
 returns-in-Ok-clause-shorter g c = λ e. c.next_command_line.ensures.shorter (c.in-Ok-Whole.is ∙ ap (λ x. Ok x) c.in-Ok-Whole.field-0-is)
@@ -84,10 +84,10 @@ pub returns-in-Err-answer_line-clause-because : goal.returns-in-Err-answer_line-
 returns-in-Err-answer_line-clause-because g c = c.answer_line.ensures.because
 
 pub returns-in-Err-answer_line-clause-same_reader : goal.returns-in-Err-answer_line-clause-same_reader
-returns-in-Err-answer_line-clause-same_reader g c = c.next_command_line.ensures.same_reader
+returns-in-Err-answer_line-clause-same_reader g c = c.next_command_line.ensures.called.same_reader
 
 pub returns-in-Err-answer_line-clause-same_steps : goal.returns-in-Err-answer_line-clause-same_steps
-returns-in-Err-answer_line-clause-same_steps g c = c.next_command_line.ensures.same_steps
+returns-in-Err-answer_line-clause-same_steps g c = c.next_command_line.ensures.called.same_steps
 
 pub returns-in-Err-answer_line-clause-shorter : goal.returns-in-Err-answer_line-clause-shorter
 returns-in-Err-answer_line-clause-shorter g c = λ e. err_not_ok _ _ e
@@ -142,10 +142,10 @@ pub returns-in-Ok-answer_line-clause-because : goal.returns-in-Ok-answer_line-cl
 returns-in-Ok-answer_line-clause-because g c = c.answer_line-in-Ok-Last.ensures.because
 
 pub returns-in-Ok-answer_line-clause-same_reader : goal.returns-in-Ok-answer_line-clause-same_reader
-returns-in-Ok-answer_line-clause-same_reader g c = c.next_command_line.ensures.same_reader
+returns-in-Ok-answer_line-clause-same_reader g c = c.next_command_line.ensures.called.same_reader
 
 pub returns-in-Ok-answer_line-clause-same_steps : goal.returns-in-Ok-answer_line-clause-same_steps
-returns-in-Ok-answer_line-clause-same_steps g c = c.next_command_line.ensures.same_steps
+returns-in-Ok-answer_line-clause-same_steps g c = c.next_command_line.ensures.called.same_steps
 
 pub returns-in-Ok-answer_line-clause-shorter : goal.returns-in-Ok-answer_line-clause-shorter
 returns-in-Ok-answer_line-clause-shorter g c = λ e. no_more e
@@ -166,10 +166,10 @@ pub returns-in-Err-answer_line-2-clause-because : goal.returns-in-Err-answer_lin
 returns-in-Err-answer_line-2-clause-because g c = c.answer_line-in-Ok-Last.ensures.because
 
 pub returns-in-Err-answer_line-2-clause-same_reader : goal.returns-in-Err-answer_line-2-clause-same_reader
-returns-in-Err-answer_line-2-clause-same_reader g c = c.next_command_line.ensures.same_reader
+returns-in-Err-answer_line-2-clause-same_reader g c = c.next_command_line.ensures.called.same_reader
 
 pub returns-in-Err-answer_line-2-clause-same_steps : goal.returns-in-Err-answer_line-2-clause-same_steps
-returns-in-Err-answer_line-2-clause-same_steps g c = c.next_command_line.ensures.same_steps
+returns-in-Err-answer_line-2-clause-same_steps g c = c.next_command_line.ensures.called.same_steps
 
 pub returns-in-Err-answer_line-2-clause-shorter : goal.returns-in-Err-answer_line-2-clause-shorter
 returns-in-Err-answer_line-2-clause-shorter g c = λ e. err_not_ok _ _ e
@@ -203,10 +203,10 @@ pub returns-in-Ok-End-clause-because : goal.returns-in-Ok-End-clause-because
 returns-in-Ok-End-clause-because g c = c.requires.because
 
 pub returns-in-Ok-End-clause-same_reader : goal.returns-in-Ok-End-clause-same_reader
-returns-in-Ok-End-clause-same_reader g c = c.next_command_line.ensures.same_reader
+returns-in-Ok-End-clause-same_reader g c = c.next_command_line.ensures.called.same_reader
 
 pub returns-in-Ok-End-clause-same_steps : goal.returns-in-Ok-End-clause-same_steps
-returns-in-Ok-End-clause-same_steps g c = c.next_command_line.ensures.same_steps
+returns-in-Ok-End-clause-same_steps g c = c.next_command_line.ensures.called.same_steps
 
 pub returns-in-Ok-End-clause-shorter : goal.returns-in-Ok-End-clause-shorter
 returns-in-Ok-End-clause-shorter g c = λ e. no_more e
@@ -237,10 +237,9 @@ returns-in-Ok-commit-clause-fault g c = λ first input old h.
 pub returns-in-Ok-commit-clause-read_fault : goal.returns-in-Ok-commit-clause-read_fault
 returns-in-Ok-commit-clause-read_fault g c = λ e first input old h.
     let same = same_fault c.in-Err.fault Read (same_error _ _ e) in
-    let none = c.in-Err.ensures.read_fault (ap (λ x. Err x) same) in
     let left = g.R.Read.remaining c.next_command_line.new.calls.reader.now in
-    let part = c.in-Err.ensures.begun in
-    whole_answered _ c.args.every first input _ old _ _ _ _ h _ _ _ part.0 part.1 (ap (λ (l : List ℕ). prepend_known l left) none ∙ prepend_known-nil left)
+    let part = rw same at c.in-Err.ensures.fault in
+    whole_answered _ c.args.every first input _ old _ _ _ _ h _ _ _ part.0 part.1.0 (ap (λ (l : List ℕ). prepend_known l left) part.1.1 ∙ prepend_known-nil left)
     (finished _ c.args.every first h.lines old _ _ _ _ h.after.behind (λ s. Unit {0}) _ c.in-Ok-commit.ensures.done tt).appended
 
 pub returns-in-Ok-commit-clause-any_moment : goal.returns-in-Ok-commit-clause-any_moment
@@ -280,10 +279,10 @@ pub returns-in-Ok-commit-clause-because : goal.returns-in-Ok-commit-clause-becau
 returns-in-Ok-commit-clause-because g c = λ more. c.requires.because (subst (λ (k : ℕ). 0 < k) c.commit.ensures.tries more)
 
 pub returns-in-Ok-commit-clause-same_reader : goal.returns-in-Ok-commit-clause-same_reader
-returns-in-Ok-commit-clause-same_reader g c = c.next_command_line.ensures.same_reader
+returns-in-Ok-commit-clause-same_reader g c = c.next_command_line.ensures.called.same_reader
 
 pub returns-in-Ok-commit-clause-same_steps : goal.returns-in-Ok-commit-clause-same_steps
-returns-in-Ok-commit-clause-same_steps g c = c.next_command_line.ensures.same_steps
+returns-in-Ok-commit-clause-same_steps g c = c.next_command_line.ensures.called.same_steps
 
 pub returns-in-Ok-commit-clause-shorter : goal.returns-in-Ok-commit-clause-shorter
 returns-in-Ok-commit-clause-shorter g c = λ e. err_not_ok _ _ e
@@ -301,10 +300,10 @@ pub returns-in-Err-commit-clause-because : goal.returns-in-Err-commit-clause-bec
 returns-in-Err-commit-clause-because g c = λ more. c.requires.because (subst (λ (k : ℕ). 0 < k) c.commit.ensures.tries more)
 
 pub returns-in-Err-commit-clause-same_reader : goal.returns-in-Err-commit-clause-same_reader
-returns-in-Err-commit-clause-same_reader g c = c.next_command_line.ensures.same_reader
+returns-in-Err-commit-clause-same_reader g c = c.next_command_line.ensures.called.same_reader
 
 pub returns-in-Err-commit-clause-same_steps : goal.returns-in-Err-commit-clause-same_steps
-returns-in-Err-commit-clause-same_steps g c = c.next_command_line.ensures.same_steps
+returns-in-Err-commit-clause-same_steps g c = c.next_command_line.ensures.called.same_steps
 
 pub returns-in-Err-commit-clause-shorter : goal.returns-in-Err-commit-clause-shorter
 returns-in-Err-commit-clause-shorter g c = λ e. err_not_ok _ _ e

@@ -1,6 +1,6 @@
 use Rattle.std.proofs.Common.{◌≡◌, ◌<◌}
 use Rattle.stm_lines.specs.TakenLines.{bytes_to_come}
-use Rattle.stm_run.specs.Streaming.{unread}
+use Rattle.stm_lines.specs.Unread.{unread}
 use Rattle.stm_journaled_run.specs.DurableRun.{RefusalCause}
 use Rattle.stm_journaled_run.specs.GoingOn.{HasComeTo, InputLeaves, run_at}
 use Rattle.stm_journaled_run.proofs.streams.run_session.Given as goal

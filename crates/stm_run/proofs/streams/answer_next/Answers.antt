@@ -1,4 +1,4 @@
-use Rattle.std.proofs.Common.{◌≡◌, Err, ap}
+use Rattle.std.proofs.Common.{◌≡◌}
 use Rattle.stm_lines.specs.declared.run_fault.RunFault.TheVariants.{Read}
 use Rattle.stm_run.proofs.Running as Running
 use Rattle.stm_run.proofs.streams.answer_next.Goals as goal
@@ -29,4 +29,5 @@ returns-in-Ok-End-clause-answered g c = Running.none_answered _ _ _ _ (rw c.in-O
 pub returns-in-Err-clause-read_fault : goal.returns-in-Err-clause-read_fault
 returns-in-Err-clause-read_fault g c = λ e.
     let same : c.in-Err.fault ≡ Read = cc e in
-    Running.read_failed _ _ _ _ _ c.in-Err.ensures.begun (c.in-Err.ensures.read_fault (ap (λ x. Err x) same))
+    let part = rw same at c.in-Err.ensures.fault in
+    Running.read_failed _ _ _ _ _ (part.0, part.1.0) part.1.1

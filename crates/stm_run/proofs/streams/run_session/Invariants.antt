@@ -1,6 +1,7 @@
 use Rattle.std.proofs.Common.{◌≡◌, ◌+◌}
 use Rattle.stm_lines.specs.TakenLines.{bytes_to_come}
-use Rattle.stm_run.specs.Streaming.{HasAnswered, run_state, unread}
+use Rattle.stm_lines.specs.Unread.{unread}
+use Rattle.stm_run.specs.Streaming.{HasAnswered, run_state}
 use Rattle.stm_run.proofs.streams.run_session.Given as goal
 
 abbrev pub invariant-lines : goal.invariant-lines
