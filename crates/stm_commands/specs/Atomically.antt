@@ -27,7 +27,7 @@ last_line (Cancelled t) = []
 last_line (DeclaredLate name kind value) = []
 last_line (Labelled t label) = []
 
--- the same if these came after it
+-- the line of the last of what happened: this, or the last of what came after it
 abbrev pub line_of_last : What → List What → List ℕ
 line_of_last x [] = last_line x
 line_of_last x (y ∷ ys) = line_of_last y ys

@@ -52,7 +52,7 @@ abbrev pub read_text : Block → Option Since → List ℕ
 read_text block (Some s) = reads_line (reads_of (under s.store_then) block.tree)
 read_text block None = refused (codes "NotEvaluated")
 
--- the same of the block of a waiter, or that the ticket has none
+-- what the block of a waiter read at its last delivery, or that no block waits under the ticket
 abbrev pub waiter_reads_text : Option Waiter → List ℕ
 waiter_reads_text (Some w) = read_text w.block w.since
 waiter_reads_text None = refused (codes "NoTicket")

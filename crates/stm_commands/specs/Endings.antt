@@ -81,12 +81,12 @@ cancel_step d argument =
     (number_argument argument)
 
 -- ---- settle and drain
--- how many blocks finished, and how many were run
+-- how many blocks finished by settling, and how many were run
 unfoldable pub settled_line : ℕ → ℕ → List ℕ
 settled_line finished evaluations =
     codes "settled " ++ decimal finished ++ codes " evaluations " ++ decimal evaluations ++ 10 ∷ []
 
--- the same of draining
+-- how many blocks finished by draining, and how many were run
 unfoldable pub drained_line : ℕ → ℕ → List ℕ
 drained_line finished evaluations =
     codes "drained " ++ decimal finished ++ codes " evaluations " ++ decimal evaluations ++ 10 ∷ []

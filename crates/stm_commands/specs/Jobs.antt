@@ -28,7 +28,7 @@ use Rattle.stm_commands.specs.Refusals.{refused, deliver_error_text}
 abbrev pub max_jobs : ℕ
 max_jobs = 65536
 
--- the job of a ticket, of the block that waits under it, with the present store
+-- the job of a ticket: the block that waits under it, with the present store
 abbrev pub job_of : Slow → ℕ → Option Block → List HandedOut
 job_of s t (Some block) = record { ticket = t; block = block; store = plains s.store } ∷ []
 job_of s t None = []
@@ -46,7 +46,7 @@ taken d n = take n (queued d.pending)
 abbrev pub job_text : ℕ × ℕ → List ℕ
 job_text j = decimal j.0 ++ codes "=" ++ decimal j.1
 
--- each with its number: these ascend from n
+-- each ticket with the number of its job: these ascend from n
 abbrev pub numbered : ℕ → List ℕ → List (ℕ × ℕ)
 numbered n [] = []
 numbered n (t ∷ ts) = (n, t) ∷ numbered (n + 1) ts

@@ -39,7 +39,7 @@ ticket_and_label (Some t) (Some label) = Some (t, label)
 ticket_and_label (Some t) None = None
 ticket_and_label None label = None
 
--- the same as an argument: the first word is the ticket, and the rest the label
+-- the ticket and the label of an argument: its first word, and the rest
 unfoldable pub labelling : List ℕ → Option (ℕ × List ℕ)
 labelling text =
     ticket_and_label (number_argument (take (command_len text) text)) (label_argument (skip_blanks (drop (command_len text) text)))
@@ -49,7 +49,7 @@ abbrev pub label_ticket_step : DeskView → ℕ → List ℕ → Option LabelErr
 label_ticket_step d t label None = (with_event d 0 (Labelled t label), labelled_line t label)
 label_ticket_step d t label (Some e) = (d, label_error_text e)
 
--- the same, or that the argument isn't a ticket and a label
+-- `label` of a ticket and its label, or that the argument isn't these
 abbrev pub labelling_step : OpenDesk → Option (ℕ × List ℕ) → OpenDesk × List ℕ
 labelling_step d (Some l) = on_desk d (label_ticket_step d.desk l.0 l.1 (label_refusal d.desk l.0))
 labelling_step d None = (d, argument_refused)
@@ -78,12 +78,12 @@ unfoldable pub block_answer : OpenDesk → List ℕ → List ℕ
 block_answer d argument = with_number (λ t. block_text_line t (block_at (state_of d.desk) t)) argument_refused (number_argument argument)
 
 -- ---- board
--- how a block waits on the present store, and its label
+-- the line of a block: how it waits on the present store, and its label
 unfoldable pub board_line : Labels → List Cell → Waiter → List ℕ
 board_line labels store w =
     decimal w.ticket ++ standing_text (standing store w) ++ 32 ∷ label_text (label_of w.ticket labels) ++ 10 ∷ []
 
--- the same of each of the blocks, a line each
+-- the lines of these blocks
 abbrev pub board_lines : Labels → List Cell → List Waiter → List ℕ
 board_lines labels store [] = []
 board_lines labels store (w ∷ ws) = board_line labels store w ++ board_lines labels store ws

@@ -11,6 +11,7 @@ pub mod Evaluation
 pub mod Jobs
 pub mod Labelling
 pub mod OpenDesk
+pub mod Printing
 pub mod Questions
 pub mod Refusals
 -- The words inside, for what the type of an open desk keeps.

@@ -22,6 +22,7 @@ use Rattle.stm_desk.specs.DeskView.{DeskView, start_state, state_of, with_event}
 use Rattle.stm_commands.specs.declared.jobs.KeptJob.{KeptJob}
 use Rattle.stm_commands.specs.declared.evaluation.Progress.{Progress}
 use Rattle.stm_commands.specs.Evaluation.{DeliveredSoFar}
+use Rattle.stm_commands.specs.Jobs.{deliver_job_step}
 use Rattle.stm_commands.specs.OpenDesk.{HandedOut}
 
 -- a job with the store at its `take`
@@ -37,12 +38,12 @@ pub record JobStands (d : DeskView) (j : HandedOut) : Type 0 where
 abbrev pub OwnsTicket : Slow → Evaluated → Type 0
 OwnsTicket s m = IsTicketOf (message_block m) s (message_ticket m)
 
--- so it is of each of these answers that is a message
+-- the ticket of each of these answers that is a message was given to its block
 abbrev pub OwnTheirTickets : Slow → List (Result Evaluated (Job × AllocError)) → Type 0
 OwnTheirTickets s [] = Unit {0}
 OwnTheirTickets s (a ∷ rest) = IfOk a (OwnsTicket s) × OwnTheirTickets s rest
 
--- each of the jobs does
+-- the ticket of each of these jobs was given to its block, and its store has the variables that the block names
 abbrev pub JobsStand : DeskView → List HandedOut → Type 0
 JobsStand d [] = Unit {0}
 JobsStand d (j ∷ js) = JobStands d j × JobsStand d js
@@ -55,7 +56,7 @@ job_kept k = record { ticket = k.ticket; block = k.block; store = k.at_take.valu
 abbrev pub IsStored : KeptJob → Type 0
 IsStored k = k.store ≡ Some k.at_take.value
 
--- each of the jobs does
+-- each of these jobs has its store
 abbrev pub AreStored : List KeptJob → Type 0
 AreStored [] = Unit {0}
 AreStored (k ∷ ks) = IsStored k × AreStored ks
@@ -64,7 +65,7 @@ AreStored (k ∷ ks) = IsStored k × AreStored ks
 abbrev pub HasStore : List Waiter → KeptJob → Type 0
 HasStore ws k = (w : Waiter) → find_waiter k.ticket ws ≡ Some w → IsStored k
 
--- each of the jobs does
+-- each of these jobs whose ticket is one of those that wait has its store
 abbrev pub HaveStores : List Waiter → List KeptJob → Type 0
 HaveStores ws [] = Unit {0}
 HaveStores ws (k ∷ ks) = HasStore ws k × HaveStores ws ks
@@ -103,6 +104,10 @@ abbrev pub after_message : DeskView → Evaluated → Option DeliverError → De
 after_message d m None = with_event d 0 (installation_of m)
 after_message d m (Some e) = requeued_if_overtaken e (message_ticket m) d
 
+-- the desk after a job's block was evaluated on the job's store, and the delivery taken or refused
+abbrev pub after_job : DeskView → HandedOut → DeskView
+after_job d j = (deliver_job_step d (Some j)).0
+
 -- the result of a delivery by its refusal, if there is one
 abbrev pub delivery_result : Option DeliverError → Result (Unit {0}) DeliverError
 delivery_result None = Ok tt
@@ -123,6 +128,6 @@ AnswerJobs (j ∷ js) cells (a ∷ rest) = AnswersJob j cells a × AnswerJobs js
 abbrev pub delivered_so_far : DeskView → Progress → DeliveredSoFar
 delivered_so_far d p = record { desk = d; count = p.count; stop = p.stop }
 
--- the same before the first
+-- how far it came before the first job
 abbrev pub none_delivered : DeskView → DeliveredSoFar
 none_delivered d = record { desk = d; count = 0; stop = None }

@@ -19,11 +19,11 @@ use Rattle.stm_commands.specs.Refusals.{refused}
 abbrev pub ready_tickets : Slow → List ℕ
 ready_tickets s = map (λ w. w.ticket) (filter (λ w. is_ready s.store w) s.waiters)
 
--- those of them that are above this one
+-- the tickets above this one of the blocks that could finish now
 abbrev pub ready_above : ℕ → Slow → List ℕ
 ready_above n s = map (λ w. w.ticket) (filter (λ w. nat_lt n w.ticket && is_ready s.store w) s.waiters)
 
--- these tickets, or that there is none
+-- the line of the tickets of the blocks that could finish now
 unfoldable pub ready_text : Slow → List ℕ
 ready_text s = codes "ready " ++ tickets_text (ready_tickets s) ++ 10 ∷ []
 
@@ -58,7 +58,7 @@ why_answer d argument = with_number (λ t. why_line t (reason_of d.desk t)) argu
 abbrev pub later_lines : List Event → ℕ → List ℕ
 later_lines history n = event_lines (drop (n - 1) history) ++ (codes "events " ++ decimal (length history) ++ 10 ∷ [])
 
--- the same of a desk's events
+-- the lines of a desk's events from the n-th on, and how many events there are
 abbrev pub later_events_text : OpenDesk → ℕ → List ℕ
 later_events_text d n = later_lines d.desk.history n
 

@@ -5,8 +5,8 @@ ghost use Rattle.stm_events.specs.SlowDesk.{find_waiter};
 ghost use Rattle.stm_events.specs.States.{IsLegalFrom};
 ghost use Rattle.stm_machine.specs.Checkpoints.{MayStart};
 ghost use Rattle.stm_desk.specs.DeskView.{start_state, state_of};
-ghost use Rattle.stm_commands.specs.Jobs.{delivery_refusal, deliver_job_step};
-ghost use Rattle.stm_commands.specs.OpenInvariant.{refusal_unevaluated, handed_out, JobStands, HasGrown, OwnsTicket, after_message, IsRefusedFor};
+ghost use Rattle.stm_commands.specs.Jobs.{delivery_refusal};
+ghost use Rattle.stm_commands.specs.OpenInvariant.{refusal_unevaluated, handed_out, JobStands, HasGrown, OwnsTicket, after_job, after_message, IsRefusedFor};
 
 use std::alloc::{AllocError, Global};
 use stm_desk::{DeliverError, Desk, Status};
@@ -69,9 +69,8 @@ pub fn deliver_job(
     requires start { MayStart desk.old.table desk.old.checkpoint }
     requires legal { IsLegalFrom (start_state desk.old) desk.old.history }
     requires stands { JobStands desk.old (handed_out store.now job) }
-    ensures told { IfOk result (λ r. r ≡ delivery_refusal desk.old (handed_out store.now job)) }
-    ensures done { OnOk result
-        (desk.new ≡ (deliver_job_step desk.old (Some (handed_out store.now job))).0) }
+    ensures refused { IfOk result (λ r. r ≡ delivery_refusal desk.old (handed_out store.now job)) }
+    ensures done { OnOk result (desk.new ≡ after_job desk.old (handed_out store.now job)) }
     ensures grown { HasGrown desk.old desk.new }
     ensures store { (state_of desk.new).store ≡ (state_of desk.old).store }
 {

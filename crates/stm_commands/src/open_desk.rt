@@ -1,6 +1,7 @@
 //! The desk of a console that has opened.
 
-ghost use Rattle.std.specs.Prelude.{◌≡◌, ◌≤◌, [], IfOk, option_map};
+ghost use Rattle.std.specs.Prelude.{◌≡◌, ◌≤◌, [], IfOk};
+ghost use Rattle.std.specs.Option.{option_copied};
 ghost use Rattle.stm_terms.specs.UnlessNoMemory.{AnswersExcept};
 ghost use Rattle.stm_store.specs.Cells.{Covers, plains};
 ghost use Rattle.stm_terms.specs.Limits.{max_events};
@@ -109,7 +110,7 @@ impl OpenDesk {
 
     /// The checkpoint that the history begins from; none if it begins with the first values of the variables.
     pub fn begins_from(&self) -> Option<&Checkpoint>
-        ensures { option_map (λ c. c.now) result ≡ self.now.desk.checkpoint }
+        ensures { option_copied result ≡ self.now.desk.checkpoint }
     {
         self.desk.begins_from()
     }

@@ -1,9 +1,10 @@
 //! What is printed where a command is refused.
 
-ghost use Rattle.std.specs.Prelude.{◌≡◌, ◌≢◌, ◌++◌, string_bytes, OnOk};
+ghost use Rattle.std.specs.Prelude.{◌≢◌, OnOk};
 ghost use Rattle.stm_source.specs.OutOfMemory.{IsOutOfMemory};
 ghost use Rattle.stm_commands.specs.Arguments.{argument_refused};
 ghost use Rattle.stm_commands.specs.Refusals.{refused, refused_at, refused_variable, parse_fault_text, type_fault_text, declare_error_text, late_declare_error_text, label_error_text, submit_error_text, atomic_error_text, deliver_error_text, finish_error_text, cancel_error_text, refusal_text};
+ghost use Rattle.stm_commands.specs.Printing.{Prints};
 
 use std::alloc::AllocError;
 use stm_check::TypeFault;
@@ -18,7 +19,7 @@ use stm_terms::NoMemory;
 /// Appends a refusal by its name.
 #[tactic(auto, unfolding(crate::specs::Refusals::refused))]
 pub fn refuse(name: &str, out: &mut String) -> Result<(), NoMemory>
-    ensures { OnOk result (string_bytes out.new ≡ string_bytes out.old ++ refused name.now) }
+    ensures { Prints result out.old out.new (refused name.now) }
 {
     out.push_str("refused ")?;
     out.push_str(name)?;
@@ -27,7 +28,7 @@ pub fn refuse(name: &str, out: &mut String) -> Result<(), NoMemory>
 
 /// Appends that the argument is refused.
 pub fn refuse_argument(out: &mut String) -> Result<(), NoMemory>
-    ensures { OnOk result (string_bytes out.new ≡ string_bytes out.old ++ argument_refused) }
+    ensures { Prints result out.old out.new argument_refused }
 {
     refuse("Argument", out)
 }
@@ -35,8 +36,7 @@ pub fn refuse_argument(out: &mut String) -> Result<(), NoMemory>
 /// Appends a refusal by its name, with the place of its cause.
 #[tactic(auto, unfolding(crate::specs::Refusals::refused_at))]
 fn refuse_at(name: &str, place: usize, out: &mut String) -> Result<(), NoMemory>
-    ensures { OnOk result
-        (string_bytes out.new ≡ string_bytes out.old ++ refused_at name.now place) }
+    ensures { Prints result out.old out.new (refused_at name.now place) }
 {
     write!(out, "refused {name} {place}\n")
 }
@@ -44,15 +44,13 @@ fn refuse_at(name: &str, place: usize, out: &mut String) -> Result<(), NoMemory>
 /// Appends a refusal by its name, with the number of its variable.
 #[tactic(auto, unfolding(crate::specs::Refusals::refused_variable))]
 fn refuse_variable(name: &str, number: u32, out: &mut String) -> Result<(), NoMemory>
-    ensures { OnOk result
-        (string_bytes out.new ≡ string_bytes out.old ++ refused_variable name.now number) }
+    ensures { Prints result out.old out.new (refused_variable name.now number) }
 {
     write!(out, "refused {name} #{number}\n")
 }
 
 fn refuse_parse(fault: ParseFault, out: &mut String) -> Result<(), NoMemory>
-    ensures text { OnOk result
-        (string_bytes out.new ≡ string_bytes out.old ++ parse_fault_text fault) }
+    ensures text { Prints result out.old out.new (parse_fault_text fault) }
     ensures memory { OnOk result (fault ≢ ParseFault.NoMemory) }
 {
     match fault {
@@ -68,8 +66,7 @@ fn refuse_parse(fault: ParseFault, out: &mut String) -> Result<(), NoMemory>
 }
 
 fn refuse_type(fault: TypeFault, out: &mut String) -> Result<(), NoMemory>
-    ensures text { OnOk result
-        (string_bytes out.new ≡ string_bytes out.old ++ type_fault_text fault) }
+    ensures text { Prints result out.old out.new (type_fault_text fault) }
     ensures memory { OnOk result (fault ≢ TypeFault.NoMemory) }
 {
     match fault {
@@ -83,8 +80,7 @@ fn refuse_type(fault: TypeFault, out: &mut String) -> Result<(), NoMemory>
 }
 
 fn refuse_declaration(error: DeclareError, out: &mut String) -> Result<(), NoMemory>
-    ensures text { OnOk result
-        (string_bytes out.new ≡ string_bytes out.old ++ declare_error_text error) }
+    ensures text { Prints result out.old out.new (declare_error_text error) }
     ensures memory { OnOk result (error ≢ DeclareError.NoMemory) }
 {
     match error {
@@ -97,8 +93,7 @@ fn refuse_declaration(error: DeclareError, out: &mut String) -> Result<(), NoMem
 
 /// Appends why a block or a declaration is refused. An out-of-memory error is no line of text: it is handed on.
 pub fn write_refusal(refusal: Refusal, out: &mut String) -> Result<(), NoMemory>
-    ensures text { OnOk result
-        (string_bytes out.new ≡ string_bytes out.old ++ refusal_text refusal) }
+    ensures text { Prints result out.old out.new (refusal_text refusal) }
     ensures memory { OnOk result (¬ IsOutOfMemory refusal) }
 {
     match refusal {
@@ -111,8 +106,7 @@ pub fn write_refusal(refusal: Refusal, out: &mut String) -> Result<(), NoMemory>
 
 /// Appends why a variable isn't declared on an open desk; an out-of-memory error is handed on.
 pub fn refuse_late_declaration(error: LateDeclareError, out: &mut String) -> Result<(), NoMemory>
-    ensures text { OnOk result
-        (string_bytes out.new ≡ string_bytes out.old ++ late_declare_error_text error) }
+    ensures text { Prints result out.old out.new (late_declare_error_text error) }
     ensures memory { OnOk result (error ≢ LateDeclareError.NoMemory) }
 {
     match error {
@@ -126,8 +120,7 @@ pub fn refuse_late_declaration(error: LateDeclareError, out: &mut String) -> Res
 
 /// Appends why a block doesn't get a label; an out-of-memory error is handed on.
 pub fn refuse_label(error: LabelError, out: &mut String) -> Result<(), NoMemory>
-    ensures text { OnOk result
-        (string_bytes out.new ≡ string_bytes out.old ++ label_error_text error) }
+    ensures text { Prints result out.old out.new (label_error_text error) }
     ensures memory { OnOk result (error ≢ LabelError.NoMemory) }
 {
     match error {
@@ -139,8 +132,7 @@ pub fn refuse_label(error: LabelError, out: &mut String) -> Result<(), NoMemory>
 
 /// Appends why a block isn't submitted; an out-of-memory error is handed on.
 pub fn refuse_submit(error: SubmitError, out: &mut String) -> Result<(), NoMemory>
-    ensures text { OnOk result
-        (string_bytes out.new ≡ string_bytes out.old ++ submit_error_text error) }
+    ensures text { Prints result out.old out.new (submit_error_text error) }
     ensures memory { OnOk result (error ≢ SubmitError.NoMemory) }
 {
     match error {
@@ -153,8 +145,7 @@ pub fn refuse_submit(error: SubmitError, out: &mut String) -> Result<(), NoMemor
 
 /// Appends why a block isn't run atomically; an out-of-memory error is handed on.
 pub fn refuse_atomically(error: AtomicError, out: &mut String) -> Result<(), NoMemory>
-    ensures text { OnOk result
-        (string_bytes out.new ≡ string_bytes out.old ++ atomic_error_text error) }
+    ensures text { Prints result out.old out.new (atomic_error_text error) }
     ensures memory { OnOk result (error ≢ AtomicError.NoMemory) }
 {
     match error {
@@ -168,8 +159,7 @@ pub fn refuse_atomically(error: AtomicError, out: &mut String) -> Result<(), NoM
 
 /// Appends why a verdict isn't delivered; an out-of-memory error is handed on.
 pub fn refuse_delivery(error: DeliverError, out: &mut String) -> Result<(), NoMemory>
-    ensures text { OnOk result
-        (string_bytes out.new ≡ string_bytes out.old ++ deliver_error_text error) }
+    ensures text { Prints result out.old out.new (deliver_error_text error) }
     ensures memory { OnOk result (error ≢ DeliverError.NoMemory) }
 {
     match error {
@@ -184,8 +174,7 @@ pub fn refuse_delivery(error: DeliverError, out: &mut String) -> Result<(), NoMe
 
 /// Appends why a block isn't finished; an out-of-memory error is handed on.
 pub fn refuse_finish(error: FinishError, out: &mut String) -> Result<(), NoMemory>
-    ensures text { OnOk result
-        (string_bytes out.new ≡ string_bytes out.old ++ finish_error_text error) }
+    ensures text { Prints result out.old out.new (finish_error_text error) }
     ensures memory { OnOk result (error ≢ FinishError.NoMemory) }
 {
     match error {
@@ -201,8 +190,7 @@ pub fn refuse_finish(error: FinishError, out: &mut String) -> Result<(), NoMemor
 
 /// Appends why a block isn't cancelled; an out-of-memory error is handed on.
 pub fn refuse_cancel(error: CancelError, out: &mut String) -> Result<(), NoMemory>
-    ensures text { OnOk result
-        (string_bytes out.new ≡ string_bytes out.old ++ cancel_error_text error) }
+    ensures text { Prints result out.old out.new (cancel_error_text error) }
     ensures memory { OnOk result (error ≢ CancelError.NoMemory) }
 {
     match error {

@@ -1,12 +1,13 @@
 //! `atomically`: a transaction in one line.
 
-ghost use Rattle.std.specs.Prelude.{◌≡◌, ◌++◌, List, string_bytes, OnOk, IfSome};
+ghost use Rattle.std.specs.Prelude.{◌≡◌, List, IfSome};
 ghost use Rattle.stm_store.specs.declared.cell.Cell.{Cell};
 ghost use Rattle.stm_store.specs.Cells.{applied_answer};
 ghost use Rattle.stm_desk.specs.Events.{evaluated_and_finished};
 ghost use Rattle.stm_desk.specs.Refusals.{atomic_refusal};
 ghost use Rattle.stm_commands.specs.Atomically.{waits_line, ran_text, atomically_block_step, atomically_step};
-ghost use Rattle.stm_commands.specs.OpenDesk.{on_desk, Steps};
+ghost use Rattle.stm_commands.specs.OpenDesk.{on_desk};
+ghost use Rattle.stm_commands.specs.Printing.{Prints, TakesStep};
 
 use crate::commands::finish::write_finish;
 use crate::open_desk::OpenDesk;
@@ -19,7 +20,7 @@ use stm_terms::text::write_number;
 
 #[tactic(auto, unfolding(crate::specs::Atomically::waits_line))]
 fn write_waits_line(ticket: u32, out: &mut String) -> Result<(), NoMemory>
-    ensures { OnOk result (string_bytes out.new ≡ string_bytes out.old ++ waits_line ticket) }
+    ensures { Prints result out.old out.new (waits_line ticket) }
 {
     out.push_str("waits ")?;
     write_number(ticket, out)?;
@@ -29,8 +30,8 @@ fn write_waits_line(ticket: u32, out: &mut String) -> Result<(), NoMemory>
 /// Appends what running a block came to.
 fn write_ran(ran: Ran, out: &mut String) -> Result<(), NoMemory>
     requires { (cells : List Cell) × IfSome ran.finish (λ f. f.applied ≡ applied_answer cells f.verdict) }
-    ensures { OnOk result (string_bytes out.new ≡ string_bytes out.old
-        ++ ran_text (evaluated_and_finished ran.ticket ran.finish)) }
+    ensures { Prints result out.old out.new
+        (ran_text (evaluated_and_finished ran.ticket ran.finish)) }
 {
     let Ran { ticket, finish } = ran;
     match finish {
@@ -42,9 +43,8 @@ fn write_ran(ran: Ran, out: &mut String) -> Result<(), NoMemory>
 impl OpenDesk {
     /// Runs a block atomically.
     fn atomically(&mut self, block: SharedBlock, out: &mut String) -> Result<(), NoMemory>
-        ensures { OnOk result (Steps self.new (string_bytes out.old) (string_bytes out.new)
-            (on_desk self.old
-            (atomically_block_step self.old.desk block (atomic_refusal self.old.desk block)))) }
+        ensures { TakesStep result self.new out.old out.new
+            (on_desk self.old (atomically_block_step self.old.desk block (atomic_refusal self.old.desk block))) }
     {
         self.copy = None;
         let answer = self.desk.atomically(0, block);
@@ -64,8 +64,7 @@ impl OpenDesk {
         text: &str,
         out: &mut String,
     ) -> Result<(), NoMemory>
-        ensures { OnOk result (Steps self.new (string_bytes out.old) (string_bytes out.new)
-            (atomically_step self.old text.now)) }
+        ensures { TakesStep result self.new out.old out.new (atomically_step self.old text.now) }
     {
         match self.block(alloc, text) {
             Ok(block) => self.atomically(block, out),

@@ -1,8 +1,9 @@
 //! `block`: the text of a waiting block.
 
-ghost use Rattle.std.specs.Prelude.{◌≡◌, ◌++◌, ◌||◌, nat_eq, if◌then◌else◌, string_bytes, OnOk};
+ghost use Rattle.std.specs.Prelude.{◌≡◌, ◌||◌, nat_eq, if◌then◌else◌};
 ghost use Rattle.std.specs.Option.{option_copied};
 ghost use Rattle.stm_commands.specs.Labelling.{on_one_line, block_text_line, block_answer};
+ghost use Rattle.stm_commands.specs.Printing.{Prints};
 
 use crate::open_desk::OpenDesk;
 use crate::refusals::{refuse, refuse_argument};
@@ -19,7 +20,7 @@ fn unbroken(c: char) -> char
 
 /// Appends a text on one line.
 fn write_on_one_line(text: &str, out: &mut String) -> Result<(), NoMemory>
-    ensures { OnOk result (string_bytes out.new ≡ string_bytes out.old ++ on_one_line text.now) }
+    ensures { Prints result out.old out.new (on_one_line text.now) }
 {
     for c in text.chars() {
         out.push(unbroken(c))?;
@@ -30,8 +31,7 @@ fn write_on_one_line(text: &str, out: &mut String) -> Result<(), NoMemory>
 /// Appends the text of a block, or that no block waits.
 #[tactic(auto, unfolding(crate::specs::Labelling::block_text_line))]
 fn write_block(ticket: u32, block: Option<&SharedBlock>, out: &mut String) -> Result<(), NoMemory>
-    ensures { OnOk result (string_bytes out.new
-        ≡ string_bytes out.old ++ block_text_line ticket (option_copied block.entry)) }
+    ensures { Prints result out.old out.new (block_text_line ticket (option_copied block.entry)) }
 {
     match block {
         None => refuse("NoTicket", out),
@@ -47,8 +47,7 @@ impl OpenDesk {
     /// Answers `block`: the text of the block that waits under a ticket.
     #[tactic(auto, unfolding(crate::specs::Labelling::block_answer))]
     pub fn answer_block(&self, argument: &str, out: &mut String) -> Result<(), NoMemory>
-        ensures { OnOk result
-            (string_bytes out.new ≡ string_bytes out.old ++ block_answer self.now argument.now) }
+        ensures { Prints result out.old out.new (block_answer self.now argument.now) }
     {
         match number_of(argument.as_bytes()) {
             Some(ticket) => write_block(ticket, self.desk.block(ticket), out),

@@ -6,6 +6,7 @@ ghost use Rattle.stm_events.specs.SlowDesk.{Waiter, find_waiter};
 ghost use Rattle.stm_desk.specs.DeskView.{state_of, labels_of};
 ghost use Rattle.stm_commands.specs.Contents.{standing_text};
 ghost use Rattle.stm_commands.specs.Labelling.{label_text, board_line, board_lines, board_text, board_answer};
+ghost use Rattle.stm_commands.specs.Printing.{Prints};
 
 use crate::commands::label::write_label;
 use crate::commands::show::write_status;
@@ -22,8 +23,8 @@ fn write_labelled_status(
     label: &str,
     out: &mut String,
 ) -> Result<(), NoMemory>
-    ensures { OnOk result (string_bytes out.new ≡ string_bytes out.old
-        ++ decimal ticket ++ standing_text (shown status.entry) ++ 32 ∷ label_text label.now ++ 10 ∷ []) }
+    ensures { Prints result out.old out.new
+        (decimal ticket ++ standing_text (shown status.entry) ++ 32 ∷ label_text label.now ++ 10 ∷ []) }
 {
     write_number(ticket, out)?;
     write_status(status, out)?;
@@ -47,8 +48,8 @@ fn write_waiter(desk: &Desk, ticket: u32, out: &mut String) -> Result<(), NoMemo
 
 /// Appends the lines of the waiting blocks.
 fn write_waiters(desk: &Desk, out: &mut String) -> Result<(), NoMemory>
-    ensures { OnOk result (string_bytes out.new ≡ string_bytes out.old
-        ++ board_lines (labels_of desk.now) (state_of desk.now).store (state_of desk.now).waiters) }
+    ensures { Prints result out.old out.new
+        (board_lines (labels_of desk.now) (state_of desk.now).store (state_of desk.now).waiters) }
 {
     // The tickets are known to rise by this.
     let _events = desk.history();
@@ -63,7 +64,7 @@ fn write_waiters(desk: &Desk, out: &mut String) -> Result<(), NoMemory>
 /// Appends all waiting blocks, and how many there are.
 #[tactic(auto, unfolding(crate::specs::Labelling::board_text))]
 fn write_board(desk: &Desk, out: &mut String) -> Result<(), NoMemory>
-    ensures { OnOk result (string_bytes out.new ≡ string_bytes out.old ++ board_text desk.now) }
+    ensures { Prints result out.old out.new (board_text desk.now) }
 {
     write_waiters(desk, out)?;
     let count = desk.waiting();
@@ -74,8 +75,7 @@ impl OpenDesk {
     /// Answers `board`: how each waiting block stands, and its label.
     #[tactic(auto, unfolding(crate::specs::Labelling::board_answer))]
     pub fn answer_board(&self, argument: &str, out: &mut String) -> Result<(), NoMemory>
-        ensures { OnOk result
-            (string_bytes out.new ≡ string_bytes out.old ++ board_answer self.now argument.now) }
+        ensures { Prints result out.old out.new (board_answer self.now argument.now) }
     {
         if !argument.is_empty() {
             return refuse_argument(out);

@@ -1,10 +1,10 @@
 //! `checkpoint`: the history begins from where the desk is.
 
-ghost use Rattle.std.specs.Prelude.{◌≡◌, ◌++◌, Some, string_bytes, length, is_some, not, OnOk, IfOk, IfSome};
+ghost use Rattle.std.specs.Prelude.{◌≡◌, Some, length, is_some, not, IfOk, IfSome};
 ghost use Rattle.stm_machine.specs.Checkpoints.{MayStart};
 ghost use Rattle.stm_desk.specs.Checkpointed.{checkpoint_now};
 ghost use Rattle.stm_commands.specs.Checkpointing.{are_tickets_full, begun_anew, checkpoint_line, bare_checkpoint_step};
-ghost use Rattle.stm_commands.specs.OpenDesk.{Steps};
+ghost use Rattle.stm_commands.specs.Printing.{Prints, TakesStep};
 
 use crate::open_desk::OpenDesk;
 use crate::refusals::refuse;
@@ -15,7 +15,7 @@ use stm_terms::NoMemory;
 /// Appends the answer to `checkpoint`: how many events the history had before.
 #[tactic(auto, unfolding(crate::specs::Checkpointing::checkpoint_line))]
 pub fn write_checkpoint_line(count: u32, out: &mut String) -> Result<(), NoMemory>
-    ensures { OnOk result (string_bytes out.new ≡ string_bytes out.old ++ checkpoint_line count) }
+    ensures { Prints result out.old out.new (checkpoint_line count) }
 {
     write!(out, "checkpoint {count}\n")
 }
@@ -48,7 +48,7 @@ impl OpenDesk {
 
     /// Answers `checkpoint`, without an argument: how many events the history had before.
     pub fn answer_checkpoint(&mut self, out: &mut String) -> Result<(), NoMemory>
-        ensures { OnOk result (Steps self.new (string_bytes out.old) (string_bytes out.new) (bare_checkpoint_step self.old)) }
+        ensures { TakesStep result self.new out.old out.new (bare_checkpoint_step self.old) }
     {
         match self.next_checkpoint()? {
             Some(checkpoint) => {

@@ -1,12 +1,13 @@
 //! `deliver`: what a job's block does is delivered.
 
-ghost use Rattle.std.specs.Prelude.{◌≡◌, ◌+◌, ◌++◌, Some, string_bytes, OnOk};
+ghost use Rattle.std.specs.Prelude.{◌≡◌, ◌+◌, Some};
 ghost use Rattle.stm_events.specs.States.{IsLegalFrom};
 ghost use Rattle.stm_machine.specs.Checkpoints.{MayStart};
 ghost use Rattle.stm_desk.specs.DeskView.{start_state, state_of};
 ghost use Rattle.stm_commands.specs.Jobs.{job_at, delivered_line, deliver_job_step, deliver_step};
-ghost use Rattle.stm_commands.specs.OpenDesk.{on_desk, Steps};
+ghost use Rattle.stm_commands.specs.OpenDesk.{on_desk};
 ghost use Rattle.stm_commands.specs.OpenInvariant.{job_kept, HasStore, JobStands, HasGrown};
+ghost use Rattle.stm_commands.specs.Printing.{Prints, TakesStep};
 
 use crate::delivery::{deliver_job, refused_unevaluated};
 use crate::jobs::{KeptJob, job_of_number};
@@ -20,7 +21,7 @@ use stm_terms::text::write_number;
 
 #[tactic(auto, unfolding(crate::specs::Jobs::delivered_line))]
 fn write_delivered(ticket: u32, out: &mut String) -> Result<(), NoMemory>
-    ensures { OnOk result (string_bytes out.new ≡ string_bytes out.old ++ delivered_line ticket) }
+    ensures { Prints result out.old out.new (delivered_line ticket) }
 {
     out.push_str("delivered ")?;
     write_number(ticket, out)?;
@@ -39,8 +40,8 @@ fn deliver_kept(
     requires legal { IsLegalFrom (start_state desk.old) desk.old.history }
     requires stands { JobStands desk.old (job_kept kept.now) }
     requires stored { HasStore (state_of desk.old).waiters kept.now }
-    ensures step { OnOk result (Steps desk.new (string_bytes out.old) (string_bytes out.new)
-        (deliver_job_step desk.old (Some (job_kept kept.now)))) }
+    ensures step { TakesStep result desk.new out.old out.new
+        (deliver_job_step desk.old (Some (job_kept kept.now))) }
     ensures grown { HasGrown desk.old desk.new }
     ensures store { (state_of desk.new).store ≡ (state_of desk.old).store }
 {
@@ -62,8 +63,8 @@ fn deliver_kept(
 impl OpenDesk {
     /// Delivers what the block of a job does on the store of its `take`.
     fn deliver(&mut self, alloc: Global, number: u32, out: &mut String) -> Result<(), NoMemory>
-        ensures { OnOk result (Steps self.new (string_bytes out.old) (string_bytes out.new)
-            (on_desk self.old (deliver_job_step self.old.desk (job_at number self.old.jobs)))) }
+        ensures { TakesStep result self.new out.old out.new
+            (on_desk self.old (deliver_job_step self.old.desk (job_at number self.old.jobs))) }
     {
         match job_of_number(&self.jobs, number) {
             Some(kept) => deliver_kept(&mut self.desk, alloc, kept, out),
@@ -79,8 +80,7 @@ impl OpenDesk {
         argument: &str,
         out: &mut String,
     ) -> Result<(), NoMemory>
-        ensures { OnOk result (Steps self.new (string_bytes out.old) (string_bytes out.new)
-            (deliver_step self.old argument.now)) }
+        ensures { TakesStep result self.new out.old out.new (deliver_step self.old argument.now) }
     {
         match number_of(argument.as_bytes()) {
             Some(number) => self.deliver(alloc, number, out),

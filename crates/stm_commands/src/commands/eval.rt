@@ -1,8 +1,9 @@
 //! `eval`: all that is queued is evaluated and delivered.
 
-ghost use Rattle.std.specs.Prelude.{◌≡◌, ◌+◌, ◌++◌, string_bytes, OnOk};
+ghost use Rattle.std.specs.Prelude.{◌+◌};
 ghost use Rattle.stm_commands.specs.Evaluation.{evaluated_line, evaluation_text, eval_desk_step, eval_step};
-ghost use Rattle.stm_commands.specs.OpenDesk.{on_desk, Steps};
+ghost use Rattle.stm_commands.specs.OpenDesk.{on_desk};
+ghost use Rattle.stm_commands.specs.Printing.{Prints, TakesStep};
 
 use crate::evaluation::{evaluate_here, evaluate_queued};
 use crate::open_desk::OpenDesk;
@@ -16,7 +17,7 @@ use stm_terms::text::write_number;
 
 #[tactic(auto, unfolding(crate::specs::Evaluation::evaluated_line))]
 fn write_evaluated(count: u32, out: &mut String) -> Result<(), NoMemory>
-    ensures { OnOk result (string_bytes out.new ≡ string_bytes out.old ++ evaluated_line count) }
+    ensures { Prints result out.old out.new (evaluated_line count) }
 {
     out.push_str("evaluated ")?;
     write_number(count, out)?;
@@ -29,8 +30,7 @@ fn write_evaluation(
     stop: Option<DeliverError>,
     out: &mut String,
 ) -> Result<(), NoMemory>
-    ensures { OnOk result
-        (string_bytes out.new ≡ string_bytes out.old ++ evaluation_text count stop) }
+    ensures { Prints result out.old out.new (evaluation_text count stop) }
 {
     match stop {
         None => write_evaluated(count, out),
@@ -47,8 +47,8 @@ impl OpenDesk {
         threading: Threading,
         out: &mut String,
     ) -> Result<(), NoMemory>
-        ensures { OnOk result (Steps self.new (string_bytes out.old) (string_bytes out.new)
-            (on_desk self.old (eval_desk_step self.old.desk))) }
+        ensures { TakesStep result self.new out.old out.new
+            (on_desk self.old (eval_desk_step self.old.desk)) }
     {
         let progress = evaluate_queued(&mut self.desk, rt, alloc, threading)?;
         write_evaluation(progress.count, progress.stop, out)
@@ -56,8 +56,8 @@ impl OpenDesk {
 
     /// Evaluates and delivers all that is queued, on the desk itself.
     fn eval_here(&mut self, out: &mut String) -> Result<(), NoMemory>
-        ensures { OnOk result (Steps self.new (string_bytes out.old) (string_bytes out.new)
-            (on_desk self.old (eval_desk_step self.old.desk))) }
+        ensures { TakesStep result self.new out.old out.new
+            (on_desk self.old (eval_desk_step self.old.desk)) }
     {
         let progress = evaluate_here(&mut self.desk)?;
         write_evaluation(progress.count, progress.stop, out)
@@ -66,8 +66,7 @@ impl OpenDesk {
     /// Answers `eval` as `answer_eval` does, but starts no thread.
     #[tactic(auto, unfolding(crate::specs::Evaluation::eval_step))]
     pub fn answer_eval_here(&mut self, argument: &str, out: &mut String) -> Result<(), NoMemory>
-        ensures { OnOk result (Steps self.new (string_bytes out.old) (string_bytes out.new)
-            (eval_step self.old argument.now)) }
+        ensures { TakesStep result self.new out.old out.new (eval_step self.old argument.now) }
     {
         if !argument.is_empty() {
             return refuse_argument(out);
@@ -85,8 +84,7 @@ impl OpenDesk {
         argument: &str,
         out: &mut String,
     ) -> Result<(), NoMemory>
-        ensures { OnOk result (Steps self.new (string_bytes out.old) (string_bytes out.new)
-            (eval_step self.old argument.now)) }
+        ensures { TakesStep result self.new out.old out.new (eval_step self.old argument.now) }
     {
         if !argument.is_empty() {
             return refuse_argument(out);

@@ -1,12 +1,13 @@
 //! `finish`: a block takes effect.
 
-ghost use Rattle.std.specs.Prelude.{◌≡◌, ◌++◌, List, string_bytes, OnOk, decimal};
+ghost use Rattle.std.specs.Prelude.{◌≡◌, List, decimal};
 ghost use Rattle.stm_store.specs.declared.cell.Cell.{Cell};
 ghost use Rattle.stm_store.specs.Cells.{applied_answer};
 ghost use Rattle.stm_terms.specs.Texts.{spaced};
 ghost use Rattle.stm_desk.specs.Refusals.{finish_refusal};
 ghost use Rattle.stm_commands.specs.Endings.{tickets_text, result_line, finished_line, finish_ticket_step, finish_step};
-ghost use Rattle.stm_commands.specs.OpenDesk.{on_desk, Steps};
+ghost use Rattle.stm_commands.specs.OpenDesk.{on_desk};
+ghost use Rattle.stm_commands.specs.Printing.{Prints, TakesStep};
 
 use crate::open_desk::OpenDesk;
 use crate::refusals::{refuse_argument, refuse_finish};
@@ -20,8 +21,7 @@ use stm_terms::verdicts::Verdict;
 
 /// Appends tickets, each after a space.
 fn write_spaced_tickets(tickets: &[u32], out: &mut String) -> Result<(), NoMemory>
-    ensures { OnOk result
-        (string_bytes out.new ≡ string_bytes out.old ++ spaced decimal tickets.now) }
+    ensures { Prints result out.old out.new (spaced decimal tickets.now) }
 {
     for ticket in tickets {
         out.push_str(" ")?;
@@ -32,8 +32,7 @@ fn write_spaced_tickets(tickets: &[u32], out: &mut String) -> Result<(), NoMemor
 
 /// Appends tickets.
 fn write_tickets(tickets: &[u32], out: &mut String) -> Result<(), NoMemory>
-    ensures { OnOk result
-        (string_bytes out.new ≡ string_bytes out.old ++ tickets_text tickets.now) }
+    ensures { Prints result out.old out.new (tickets_text tickets.now) }
 {
     match tickets {
         [] => out.push_str("none"),
@@ -47,8 +46,7 @@ fn write_tickets(tickets: &[u32], out: &mut String) -> Result<(), NoMemory>
 /// Appends the answer to the finish of a block that returns.
 #[tactic(auto, unfolding(crate::specs::Endings::result_line))]
 fn write_result(ticket: u32, value: Value, stale: &[u32], out: &mut String) -> Result<(), NoMemory>
-    ensures { OnOk result
-        (string_bytes out.new ≡ string_bytes out.old ++ result_line ticket value stale.now) }
+    ensures { Prints result out.old out.new (result_line ticket value stale.now) }
 {
     out.push_str("finished ")?;
     write_number(ticket, out)?;
@@ -68,8 +66,8 @@ fn write_finished(
     out: &mut String,
 ) -> Result<(), NoMemory>
     requires { (cells : List Cell) × (applied.now ≡ applied_answer cells verdict.now) }
-    ensures { OnOk result (string_bytes out.new ≡ string_bytes out.old
-        ++ finished_line ticket applied.now.first_new verdict.now stale.now) }
+    ensures { Prints result out.old out.new
+        (finished_line ticket applied.now.first_new verdict.now stale.now) }
 {
     match (verdict, applied.result) {
         (Verdict::Commits { .. }, Some(value)) => write_result(ticket, value, stale, out),
@@ -88,8 +86,8 @@ fn write_finished(
 /// Appends the answer to a finish.
 pub(super) fn write_finish(ticket: u32, finish: Finish, out: &mut String) -> Result<(), NoMemory>
     requires { (cells : List Cell) × (finish.applied ≡ applied_answer cells finish.verdict) }
-    ensures { OnOk result (string_bytes out.new ≡ string_bytes out.old
-        ++ finished_line ticket finish.applied.first_new finish.verdict finish.stale) }
+    ensures { Prints result out.old out.new
+        (finished_line ticket finish.applied.first_new finish.verdict finish.stale) }
 {
     let blocks = Verdict::Blocks;
     let verdict = finish.verdict.get(&blocks);
@@ -105,8 +103,8 @@ pub(super) fn write_finish(ticket: u32, finish: Finish, out: &mut String) -> Res
 impl OpenDesk {
     /// Finishes the block under a ticket.
     fn finish(&mut self, ticket: u32, out: &mut String) -> Result<(), NoMemory>
-        ensures { OnOk result (Steps self.new (string_bytes out.old) (string_bytes out.new)
-            (on_desk self.old (finish_ticket_step self.old.desk ticket (finish_refusal self.old.desk ticket)))) }
+        ensures { TakesStep result self.new out.old out.new
+            (on_desk self.old (finish_ticket_step self.old.desk ticket (finish_refusal self.old.desk ticket))) }
     {
         self.copy = None;
         let answer = self.desk.finish(0, ticket);
@@ -121,8 +119,7 @@ impl OpenDesk {
     /// Answers `finish`.
     #[tactic(auto, unfolding(crate::specs::Endings::finish_step))]
     pub fn answer_finish(&mut self, argument: &str, out: &mut String) -> Result<(), NoMemory>
-        ensures { OnOk result (Steps self.new (string_bytes out.old) (string_bytes out.new)
-            (finish_step self.old argument.now)) }
+        ensures { TakesStep result self.new out.old out.new (finish_step self.old argument.now) }
     {
         match number_of(argument.as_bytes()) {
             Some(ticket) => self.finish(ticket, out),

@@ -1,12 +1,13 @@
 //! `label`: what a waiting block is called.
 
-ghost use Rattle.std.specs.Prelude.{◌≡◌, ◌++◌, true, string_bytes, option_map, OnOk, IfSome};
+ghost use Rattle.std.specs.Prelude.{◌≡◌, true, option_map, IfSome};
 ghost use Rattle.std.specs.Option.{option_copied};
 ghost use Rattle.stm_events.specs.Labels.{is_label as is_label_text};
 ghost use Rattle.stm_event_lines.specs.CheckpointFields.{label_in};
 ghost use Rattle.stm_desk.specs.Refusals.{label_refusal};
 ghost use Rattle.stm_commands.specs.Labelling.{label_text, labelled_line, label_argument, labelling as labelling_in, label_ticket_step, label_step};
-ghost use Rattle.stm_commands.specs.OpenDesk.{on_desk, Steps};
+ghost use Rattle.stm_commands.specs.OpenDesk.{on_desk};
+ghost use Rattle.stm_commands.specs.Printing.{Prints, TakesStep};
 
 use crate::open_desk::OpenDesk;
 use crate::refusals::{refuse_argument, refuse_label};
@@ -18,7 +19,7 @@ use stm_terms::NoMemory;
 
 /// Appends a label; none is `-`.
 pub(crate) fn write_label(label: &str, out: &mut String) -> Result<(), NoMemory>
-    ensures { OnOk result (string_bytes out.new ≡ string_bytes out.old ++ label_text label.now) }
+    ensures { Prints result out.old out.new (label_text label.now) }
 {
     if label.is_empty() {
         out.push_str("-")
@@ -29,7 +30,7 @@ pub(crate) fn write_label(label: &str, out: &mut String) -> Result<(), NoMemory>
 
 #[tactic(auto, unfolding(crate::specs::Labelling::labelled_line))]
 fn write_labelled(ticket: u32, label: &str, out: &mut String) -> Result<(), NoMemory>
-    ensures { OnOk result (string_bytes out.new ≡ string_bytes out.old ++ labelled_line ticket label.now) }
+    ensures { Prints result out.old out.new (labelled_line ticket label.now) }
 {
     write!(out, "labelled {ticket} ")?;
     write_label(label, out)?;
@@ -80,8 +81,8 @@ impl OpenDesk {
     /// Labels the block under a ticket. The caller knows that the text is a label.
     fn label(&mut self, ticket: u32, label: &str, out: &mut String) -> Result<(), NoMemory>
         requires { is_label_text label.now ≡ true }
-        ensures { OnOk result (Steps self.new (string_bytes out.old) (string_bytes out.new)
-            (on_desk self.old (label_ticket_step self.old.desk ticket label.now (label_refusal self.old.desk ticket)))) }
+        ensures { TakesStep result self.new out.old out.new
+            (on_desk self.old (label_ticket_step self.old.desk ticket label.now (label_refusal self.old.desk ticket))) }
     {
         let answer = self.desk.label(0, ticket, label);
         // The history is known to be legal by this.
@@ -95,8 +96,7 @@ impl OpenDesk {
     /// Answers `label`.
     #[tactic(auto, unfolding(crate::specs::Labelling::label_step))]
     pub fn answer_label(&mut self, argument: &str, out: &mut String) -> Result<(), NoMemory>
-        ensures { OnOk result (Steps self.new (string_bytes out.old) (string_bytes out.new)
-            (label_step self.old argument.now)) }
+        ensures { TakesStep result self.new out.old out.new (label_step self.old argument.now) }
     {
         match labelling(argument.as_bytes()) {
             Some((ticket, label)) => self.label(ticket, label, out),

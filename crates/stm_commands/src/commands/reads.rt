@@ -1,9 +1,9 @@
 //! `reads`: what a block read at its last delivery.
 
-ghost use Rattle.std.specs.Prelude.{◌≡◌, ◌++◌, string_bytes, OnOk};
 ghost use Rattle.stm_events.specs.SlowDesk.{find_waiter};
 ghost use Rattle.stm_desk.specs.DeskView.{state_of};
 ghost use Rattle.stm_commands.specs.Contents.{waiter_reads_text, reads_answer};
+ghost use Rattle.stm_commands.specs.Printing.{Prints};
 
 use crate::commands::trial::write_reads_line;
 use crate::open_desk::OpenDesk;
@@ -14,8 +14,8 @@ use stm_terms::NoMemory;
 
 /// Appends what the block under a ticket read at its last delivery.
 fn write_reads(desk: &Desk, ticket: u32, out: &mut String) -> Result<(), NoMemory>
-    ensures { OnOk result (string_bytes out.new
-        ≡ string_bytes out.old ++ waiter_reads_text (find_waiter ticket (state_of desk.now).waiters)) }
+    ensures { Prints result out.old out.new
+        (waiter_reads_text (find_waiter ticket (state_of desk.now).waiters)) }
 {
     if desk.block(ticket).is_none() {
         return refuse("NoTicket", out);
@@ -30,8 +30,7 @@ impl OpenDesk {
     /// Answers `reads`: what a block read at its last delivery.
     #[tactic(auto, unfolding(crate::specs::Contents::reads_answer))]
     pub fn answer_reads(&self, argument: &str, out: &mut String) -> Result<(), NoMemory>
-        ensures { OnOk result
-            (string_bytes out.new ≡ string_bytes out.old ++ reads_answer self.now argument.now) }
+        ensures { Prints result out.old out.new (reads_answer self.now argument.now) }
     {
         match number_of(argument.as_bytes()) {
             Some(ticket) => write_reads(&self.desk, ticket, out),

@@ -3,7 +3,8 @@
 ghost use Rattle.std.specs.Prelude.{◌≡◌, ◌≢◌, ◌++◌, ◌∷◌, [], codes, string_bytes, OnOk, decimal};
 ghost use Rattle.stm_desk.specs.Settling.{requeued_all};
 ghost use Rattle.stm_commands.specs.Endings.{settled_line, why_text, settle_desk_step, settle_step};
-ghost use Rattle.stm_commands.specs.OpenDesk.{on_desk, Steps};
+ghost use Rattle.stm_commands.specs.OpenDesk.{on_desk};
+ghost use Rattle.stm_commands.specs.Printing.{Prints, TakesStep};
 
 use crate::open_desk::OpenDesk;
 use crate::refusals::refuse_argument;
@@ -25,8 +26,7 @@ pub(super) fn write_evaluations(evaluations: u32, out: &mut String) -> Result<()
 /// Appends how much settling did.
 #[tactic(auto, unfolding(crate::specs::Endings::settled_line))]
 fn write_settled(finished: u32, evaluations: u32, out: &mut String) -> Result<(), NoMemory>
-    ensures { OnOk result
-        (string_bytes out.new ≡ string_bytes out.old ++ settled_line finished evaluations) }
+    ensures { Prints result out.old out.new (settled_line finished evaluations) }
 {
     out.push_str("settled ")?;
     write_number(finished, out)?;
@@ -35,8 +35,8 @@ fn write_settled(finished: u32, evaluations: u32, out: &mut String) -> Result<()
 
 /// Appends why settling or draining stopped. An out-of-memory error isn't reported here.
 pub(super) fn write_why(why: SettleWhy, out: &mut String) -> Result<(), NoMemory>
-    ensures text { OnOk result (string_bytes out.new ≡ string_bytes out.old ++ why_text why) }
-    ensures told { OnOk result (why ≢ SettleWhy.NoMemory) }
+    ensures text { Prints result out.old out.new (why_text why) }
+    ensures memory { OnOk result (why ≢ SettleWhy.NoMemory) }
 {
     match why {
         SettleWhy::HistoryFull => out.push_str("stopped HistoryFull "),
@@ -49,7 +49,7 @@ pub(super) fn write_why(why: SettleWhy, out: &mut String) -> Result<(), NoMemory
 fn write_stop(stop: SettleStop, out: &mut String) -> Result<(), NoMemory>
     ensures text { OnOk result (string_bytes out.new ≡ string_bytes out.old ++ why_text stop.why
         ++ settled_line stop.finished stop.evaluations) }
-    ensures told { OnOk result (stop.why ≢ SettleWhy.NoMemory) }
+    ensures memory { OnOk result (stop.why ≢ SettleWhy.NoMemory) }
 {
     write_why(stop.why, out)?;
     write_settled(stop.finished, stop.evaluations, out)
@@ -58,8 +58,8 @@ fn write_stop(stop: SettleStop, out: &mut String) -> Result<(), NoMemory>
 impl OpenDesk {
     /// Settles the desk.
     fn settle(&mut self, out: &mut String) -> Result<(), NoMemory>
-        ensures { OnOk result (Steps self.new (string_bytes out.old) (string_bytes out.new)
-            (on_desk self.old (settle_desk_step (requeued_all self.old.desk)))) }
+        ensures { TakesStep result self.new out.old out.new
+            (on_desk self.old (settle_desk_step (requeued_all self.old.desk))) }
     {
         self.copy = None;
         let answer = self.desk.settle(0);
@@ -74,8 +74,7 @@ impl OpenDesk {
     /// Answers `settle`.
     #[tactic(auto, unfolding(crate::specs::Endings::settle_step))]
     pub fn answer_settle(&mut self, argument: &str, out: &mut String) -> Result<(), NoMemory>
-        ensures { OnOk result (Steps self.new (string_bytes out.old) (string_bytes out.new)
-            (settle_step self.old argument.now)) }
+        ensures { TakesStep result self.new out.old out.new (settle_step self.old argument.now) }
     {
         if !argument.is_empty() {
             return refuse_argument(out);

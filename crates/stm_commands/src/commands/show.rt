@@ -5,6 +5,7 @@ ghost use Rattle.stm_events.specs.BlockStatus.{shown};
 ghost use Rattle.stm_events.specs.SlowDesk.{Waiter, find_waiter};
 ghost use Rattle.stm_desk.specs.DeskView.{state_of};
 ghost use Rattle.stm_commands.specs.Contents.{standing_text, waiter_line, waiter_lines, show_text, show_answer};
+ghost use Rattle.stm_commands.specs.Printing.{Prints};
 
 use crate::open_desk::OpenDesk;
 use crate::refusals::refuse_argument;
@@ -14,8 +15,7 @@ use stm_terms::text::{write_number, write_verdict};
 
 /// Appends how a block waits.
 pub(crate) fn write_status(status: Status<'_>, out: &mut String) -> Result<(), NoMemory>
-    ensures { OnOk result
-        (string_bytes out.new ≡ string_bytes out.old ++ standing_text (shown status.entry)) }
+    ensures { Prints result out.old out.new (standing_text (shown status.entry)) }
 {
     match status {
         Status::New => out.push_str(" new"),
@@ -32,8 +32,8 @@ pub(crate) fn write_status(status: Status<'_>, out: &mut String) -> Result<(), N
 
 /// Appends the line of a ticket and its block's status.
 fn write_status_line(ticket: u32, status: Status<'_>, out: &mut String) -> Result<(), NoMemory>
-    ensures { OnOk result (string_bytes out.new
-        ≡ string_bytes out.old ++ decimal ticket ++ standing_text (shown status.entry) ++ 10 ∷ []) }
+    ensures { Prints result out.old out.new
+        (decimal ticket ++ standing_text (shown status.entry) ++ 10 ∷ []) }
 {
     write_number(ticket, out)?;
     write_status(status, out)?;
@@ -55,8 +55,8 @@ fn write_waiter(desk: &Desk, ticket: u32, out: &mut String) -> Result<(), NoMemo
 
 /// Appends the lines of the waiting blocks.
 fn write_waiters(desk: &Desk, out: &mut String) -> Result<(), NoMemory>
-    ensures { OnOk result (string_bytes out.new
-        ≡ string_bytes out.old ++ waiter_lines (state_of desk.now).store (state_of desk.now).waiters) }
+    ensures { Prints result out.old out.new
+        (waiter_lines (state_of desk.now).store (state_of desk.now).waiters) }
 {
     // The tickets are known to rise by this.
     let _events = desk.history();
@@ -71,8 +71,7 @@ fn write_waiters(desk: &Desk, out: &mut String) -> Result<(), NoMemory>
 /// Appends how each waiting block stands, and how many wait.
 #[tactic(auto, unfolding(crate::specs::Contents::show_text))]
 fn write_all_waiters(desk: &Desk, out: &mut String) -> Result<(), NoMemory>
-    ensures { OnOk result
-        (string_bytes out.new ≡ string_bytes out.old ++ show_text (state_of desk.now)) }
+    ensures { Prints result out.old out.new (show_text (state_of desk.now)) }
 {
     write_waiters(desk, out)?;
     let count = desk.waiting();
@@ -83,8 +82,7 @@ impl OpenDesk {
     /// Answers `show`: how each waiting block stands.
     #[tactic(auto, unfolding(crate::specs::Contents::show_answer))]
     pub fn answer_show(&self, argument: &str, out: &mut String) -> Result<(), NoMemory>
-        ensures { OnOk result
-            (string_bytes out.new ≡ string_bytes out.old ++ show_answer self.now argument.now) }
+        ensures { Prints result out.old out.new (show_answer self.now argument.now) }
     {
         if !argument.is_empty() {
             return refuse_argument(out);

@@ -1,9 +1,9 @@
 //! `submit`: a block waits under a new ticket.
 
-ghost use Rattle.std.specs.Prelude.{◌≡◌, ◌++◌, string_bytes, OnOk};
 ghost use Rattle.stm_desk.specs.Refusals.{submit_refusal};
 ghost use Rattle.stm_commands.specs.Blocks.{ticket_line, submit_block_step, submit_step};
-ghost use Rattle.stm_commands.specs.OpenDesk.{on_desk, Steps};
+ghost use Rattle.stm_commands.specs.OpenDesk.{on_desk};
+ghost use Rattle.stm_commands.specs.Printing.{Prints, TakesStep};
 
 use crate::open_desk::OpenDesk;
 use crate::refusals::{refuse_submit, write_refusal};
@@ -14,7 +14,7 @@ use stm_terms::text::write_number;
 
 #[tactic(auto, unfolding(crate::specs::Blocks::ticket_line))]
 fn write_ticket_line(ticket: u32, out: &mut String) -> Result<(), NoMemory>
-    ensures { OnOk result (string_bytes out.new ≡ string_bytes out.old ++ ticket_line ticket) }
+    ensures { Prints result out.old out.new (ticket_line ticket) }
 {
     out.push_str("ticket ")?;
     write_number(ticket, out)?;
@@ -24,8 +24,8 @@ fn write_ticket_line(ticket: u32, out: &mut String) -> Result<(), NoMemory>
 impl OpenDesk {
     /// Submits a block.
     fn submit(&mut self, block: SharedBlock, out: &mut String) -> Result<(), NoMemory>
-        ensures { OnOk result (Steps self.new (string_bytes out.old) (string_bytes out.new)
-            (on_desk self.old (submit_block_step self.old.desk block (submit_refusal self.old.desk block)))) }
+        ensures { TakesStep result self.new out.old out.new
+            (on_desk self.old (submit_block_step self.old.desk block (submit_refusal self.old.desk block))) }
     {
         let answer = self.desk.submit(0, block);
         // The history is known to be legal by this.
@@ -44,8 +44,7 @@ impl OpenDesk {
         text: &str,
         out: &mut String,
     ) -> Result<(), NoMemory>
-        ensures { OnOk result (Steps self.new (string_bytes out.old) (string_bytes out.new)
-            (submit_step self.old text.now)) }
+        ensures { TakesStep result self.new out.old out.new (submit_step self.old text.now) }
     {
         match self.block(alloc, text) {
             Ok(block) => self.submit(block, out),

@@ -1,12 +1,12 @@
 //! `take`: the lowest queued tickets are handed out.
 
-ghost use Rattle.std.specs.Prelude.{◌≡◌, ◌≤◌, ◌+◌, ◌++◌, map, length, string_bytes, OnOk, IfOk};
+ghost use Rattle.std.specs.Prelude.{◌≡◌, ◌≤◌, ◌+◌, map, length, OnOk, IfOk};
 ghost use Rattle.stm_terms.specs.Texts.{spaced, list_text};
 ghost use Rattle.stm_machine.specs.JobsHandedOut.{sent};
 ghost use Rattle.stm_desk.specs.DeskView.{state_of};
 ghost use Rattle.stm_commands.specs.Jobs.{taken, jobs_of, job_text, numbered, jobs_line, take_jobs_step, take_step};
-ghost use Rattle.stm_commands.specs.OpenDesk.{Steps};
 ghost use Rattle.stm_commands.specs.OpenInvariant.{job_kept, AreStored, JobsStand};
+ghost use Rattle.stm_commands.specs.Printing.{Prints, TakesStep};
 
 use crate::jobs::{KeptJob, with_store};
 use crate::open_desk::OpenDesk;
@@ -22,8 +22,7 @@ const MAX_JOBS: usize = 65_536;
 
 /// Appends a job's number and ticket.
 fn write_job(number: u32, ticket: u32, out: &mut String) -> Result<(), NoMemory>
-    ensures { OnOk result
-        (string_bytes out.new ≡ string_bytes out.old ++ job_text (number, ticket)) }
+    ensures { Prints result out.old out.new (job_text (number, ticket)) }
 {
     write!(out, "{number}={ticket}")
 }
@@ -31,8 +30,8 @@ fn write_job(number: u32, ticket: u32, out: &mut String) -> Result<(), NoMemory>
 /// Appends jobs, each after a space.
 fn write_spaced_jobs(first: u32, jobs: &[Job], out: &mut String) -> Result<(), NoMemory>
     requires { first + length jobs.now ≤ u32.MAX }
-    ensures { OnOk result (string_bytes out.new
-        ≡ string_bytes out.old ++ spaced job_text (numbered first (map (λ j. j.ticket) jobs.now))) }
+    ensures { Prints result out.old out.new
+        (spaced job_text (numbered first (map (λ j. j.ticket) jobs.now))) }
 {
     let mut number = first;
     for job in jobs {
@@ -46,8 +45,8 @@ fn write_spaced_jobs(first: u32, jobs: &[Job], out: &mut String) -> Result<(), N
 /// Appends jobs by their numbers, which begin with this one, and tickets.
 fn write_jobs(first: u32, jobs: &[Job], out: &mut String) -> Result<(), NoMemory>
     requires { first + length jobs.now ≤ u32.MAX }
-    ensures { OnOk result (string_bytes out.new ≡ string_bytes out.old
-        ++ list_text job_text (numbered first (map (λ j. j.ticket) jobs.now))) }
+    ensures { Prints result out.old out.new
+        (list_text job_text (numbered first (map (λ j. j.ticket) jobs.now))) }
 {
     match jobs {
         [] => out.push_str("none"),
@@ -61,8 +60,7 @@ fn write_jobs(first: u32, jobs: &[Job], out: &mut String) -> Result<(), NoMemory
 #[tactic(auto, unfolding(crate::specs::Jobs::jobs_line))]
 fn write_jobs_line(first: u32, jobs: &[Job], out: &mut String) -> Result<(), NoMemory>
     requires { first + length jobs.now ≤ u32.MAX }
-    ensures { OnOk result (string_bytes out.new
-        ≡ string_bytes out.old ++ jobs_line first (map (λ j. j.ticket) jobs.now)) }
+    ensures { Prints result out.old out.new (jobs_line first (map (λ j. j.ticket) jobs.now)) }
 {
     out.push_str("jobs ")?;
     write_jobs(first, jobs, out)?;
@@ -78,8 +76,7 @@ fn hand_out(
     out: &mut String,
 ) -> Result<Vec<KeptJob>, NoMemory>
     requires { first + n ≤ u32.MAX }
-    ensures text { OnOk result
-        (string_bytes out.new ≡ string_bytes out.old ++ jobs_line first (taken desk.old n)) }
+    ensures text { Prints result out.old out.new (jobs_line first (taken desk.old n)) }
     ensures made { IfOk result (λ made.
         map job_kept made.items ≡ jobs_of (state_of desk.old) (taken desk.old n)) }
     ensures stand { IfOk result (λ made. JobsStand desk.old (map job_kept made.items)) }
@@ -99,8 +96,7 @@ fn hand_out(
 impl OpenDesk {
     /// Hands out the n lowest queued tickets, or all.
     fn take(&mut self, alloc: Global, n: u32, out: &mut String) -> Result<(), NoMemory>
-        ensures { OnOk result (Steps self.new (string_bytes out.old) (string_bytes out.new)
-            (take_jobs_step self.old n)) }
+        ensures { TakesStep result self.new out.old out.new (take_jobs_step self.old n) }
     {
         if n as usize + self.jobs.len() > MAX_JOBS {
             return refuse("JobsFull", out);
@@ -118,8 +114,7 @@ impl OpenDesk {
         argument: &str,
         out: &mut String,
     ) -> Result<(), NoMemory>
-        ensures { OnOk result (Steps self.new (string_bytes out.old) (string_bytes out.new)
-            (take_step self.old argument.now)) }
+        ensures { TakesStep result self.new out.old out.new (take_step self.old argument.now) }
     {
         match number_of(argument.as_bytes()) {
             Some(n) => self.take(alloc, n, out),

@@ -1,11 +1,12 @@
 //! `try` and `looks`: what a block does on the present store, which stays as it is.
 
-ghost use Rattle.std.specs.Prelude.{◌≡◌, ◌++◌, Some, string_bytes, OnOk};
+ghost use Rattle.std.specs.Prelude.{◌≡◌, Some};
 ghost use Rattle.stm_terms.specs.ReadSet.{reads_of};
 ghost use Rattle.stm_events.specs.SlowDesk.{under, verdict_on};
 ghost use Rattle.stm_store.specs.Cells.{Covers, plains};
 ghost use Rattle.stm_commands.specs.Blocks.{try_answer, looks_answer, verdict_line, reads_line};
 ghost use Rattle.stm_commands.specs.OpenDesk.{present};
+ghost use Rattle.stm_commands.specs.Printing.{Prints};
 
 use crate::open_desk::OpenDesk;
 use crate::refusals::write_refusal;
@@ -20,8 +21,7 @@ use stm_terms::verdicts::Verdict;
 /// Appends a verdict as a line.
 #[tactic(auto, unfolding(crate::specs::Blocks::verdict_line))]
 fn write_verdict_line(verdict: &Verdict, out: &mut String) -> Result<(), NoMemory>
-    ensures { OnOk result
-        (string_bytes out.new ≡ string_bytes out.old ++ verdict_line (Some verdict.now)) }
+    ensures { Prints result out.old out.new (verdict_line (Some verdict.now)) }
 {
     write_verdict(verdict, out)?;
     out.push_str("\n")
@@ -30,7 +30,7 @@ fn write_verdict_line(verdict: &Verdict, out: &mut String) -> Result<(), NoMemor
 /// Appends reads as a line.
 #[tactic(auto, unfolding(crate::specs::Blocks::reads_line))]
 pub fn write_reads_line(reads: &[(u32, Value)], out: &mut String) -> Result<(), NoMemory>
-    ensures { OnOk result (string_bytes out.new ≡ string_bytes out.old ++ reads_line reads.now) }
+    ensures { Prints result out.old out.new (reads_line reads.now) }
 {
     out.push_str("reads ")?;
     write_writes(reads, out)?;
@@ -41,8 +41,8 @@ impl OpenDesk {
     /// Appends the verdict of a block on the present store.
     fn write_tried(&mut self, block: &Typed, out: &mut String) -> Result<(), NoMemory>
         requires { Covers (plains (present self.old)) block.now.uses }
-        ensures text { OnOk result (string_bytes out.new
-            ≡ string_bytes out.old ++ verdict_line (verdict_on (present self.old) block.now)) }
+        ensures text { Prints result out.old out.new
+            (verdict_line (verdict_on (present self.old) block.now)) }
         ensures same { self.new ≡ self.old }
     {
         let copy = self.take_copy()?;
@@ -54,8 +54,8 @@ impl OpenDesk {
     /// Appends what a block reads on the present store.
     fn write_looked(&mut self, block: &Typed, out: &mut String) -> Result<(), NoMemory>
         requires { Covers (plains (present self.old)) block.now.uses }
-        ensures text { OnOk result (string_bytes out.new ≡ string_bytes out.old
-            ++ reads_line (reads_of (under (present self.old)) block.now.tree)) }
+        ensures text { Prints result out.old out.new
+            (reads_line (reads_of (under (present self.old)) block.now.tree)) }
         ensures same { self.new ≡ self.old }
     {
         let copy = self.take_copy()?;
@@ -73,8 +73,7 @@ impl OpenDesk {
         text: &str,
         out: &mut String,
     ) -> Result<(), NoMemory>
-        ensures text { OnOk result
-            (string_bytes out.new ≡ string_bytes out.old ++ try_answer self.old text.now) }
+        ensures text { Prints result out.old out.new (try_answer self.old text.now) }
         ensures same { self.new ≡ self.old }
     {
         match self.block(alloc, text) {
@@ -91,8 +90,7 @@ impl OpenDesk {
         text: &str,
         out: &mut String,
     ) -> Result<(), NoMemory>
-        ensures text { OnOk result
-            (string_bytes out.new ≡ string_bytes out.old ++ looks_answer self.old text.now) }
+        ensures text { Prints result out.old out.new (looks_answer self.old text.now) }
         ensures same { self.new ≡ self.old }
     {
         match self.block(alloc, text) {

@@ -1,9 +1,10 @@
 //! `why`: what a block waits for.
 
-ghost use Rattle.std.specs.Prelude.{◌≡◌, ◌++◌, string_bytes, OnOk, option_map};
+ghost use Rattle.std.specs.Prelude.{option_map};
 ghost use Rattle.stm_desk.specs.ReasonsTold.{told_reason};
 ghost use Rattle.stm_terms.specs.Texts.{spaced};
 ghost use Rattle.stm_commands.specs.Questions.{change_text, reason_text, why_line, why_answer};
+ghost use Rattle.stm_commands.specs.Printing.{Prints};
 
 use crate::open_desk::OpenDesk;
 use crate::refusals::{refuse, refuse_argument};
@@ -16,7 +17,7 @@ use stm_terms::text::{write_value, write_writes};
 /// Appends a variable that was changed.
 #[tactic(auto, unfolding(crate::specs::Questions::change_text))]
 fn write_change(change: Change, out: &mut String) -> Result<(), NoMemory>
-    ensures { OnOk result (string_bytes out.new ≡ string_bytes out.old ++ change_text change) }
+    ensures { Prints result out.old out.new (change_text change) }
 {
     let variable = change.variable;
     write!(out, "#{variable}=")?;
@@ -27,8 +28,7 @@ fn write_change(change: Change, out: &mut String) -> Result<(), NoMemory>
 
 /// Appends variables that were changed, each after a space.
 fn write_changes(changes: &[Change], out: &mut String) -> Result<(), NoMemory>
-    ensures { OnOk result
-        (string_bytes out.new ≡ string_bytes out.old ++ spaced change_text changes.now) }
+    ensures { Prints result out.old out.new (spaced change_text changes.now) }
 {
     for change in changes {
         out.push_str(" ")?;
@@ -39,8 +39,7 @@ fn write_changes(changes: &[Change], out: &mut String) -> Result<(), NoMemory>
 
 /// Appends what a block waits for.
 fn write_reason(reason: &Reason<'_>, out: &mut String) -> Result<(), NoMemory>
-    ensures { OnOk result
-        (string_bytes out.new ≡ string_bytes out.old ++ reason_text (told_reason reason.now)) }
+    ensures { Prints result out.old out.new (reason_text (told_reason reason.now)) }
 {
     match reason {
         Reason::New => out.push_str("new"),
@@ -59,8 +58,7 @@ fn write_reason(reason: &Reason<'_>, out: &mut String) -> Result<(), NoMemory>
 
 /// Appends the answer of `why`.
 fn write_why(ticket: u32, reason: &Option<Reason<'_>>, out: &mut String) -> Result<(), NoMemory>
-    ensures { OnOk result (string_bytes out.new
-        ≡ string_bytes out.old ++ why_line ticket (option_map told_reason reason.now)) }
+    ensures { Prints result out.old out.new (why_line ticket (option_map told_reason reason.now)) }
 {
     match reason {
         None => refuse("NoTicket", out),
@@ -81,8 +79,7 @@ impl OpenDesk {
         argument: &str,
         out: &mut String,
     ) -> Result<(), NoMemory>
-        ensures { OnOk result
-            (string_bytes out.new ≡ string_bytes out.old ++ why_answer self.now argument.now) }
+        ensures { Prints result out.old out.new (why_answer self.now argument.now) }
     {
         match number_of(argument.as_bytes()) {
             Some(ticket) => {

@@ -1,8 +1,8 @@
 use Rattle.stm_commands.proofs.Deliveries.{reason_if_ok, done_if_ok}
 use Rattle.stm_commands.proofs.delivery.deliver_job.Goals as goal
 
-pub returns-in-Ok-clause-told : goal.returns-in-Ok-clause-told
-returns-in-Ok-clause-told c =
+pub returns-in-Ok-clause-refused : goal.returns-in-Ok-clause-refused
+returns-in-Ok-clause-refused c =
     reason_if_ok c.args.desk.now c.args.store.now c.args.job c.in-Ok.message c.deliver_message.result c.requires.stands
     c.in-Ok.ensures.job.0 c.in-Ok.ensures.job.1 c.in-Ok.ensures.reads c.deliver_message.ensures.refused
 

@@ -22,7 +22,7 @@ returns-in-None-2-clause-step c =
     let cells = store_of (state_of d).waiters c.args.kept.now c.in-Some-store.store c.requires.stored (sym c.in_default.ensures) c.in-Some-store.is in
     let same : handed_out c.in-Some-store.store c.in_ok-job-in-Some-store.job ≡ k = ap (λ (x : List (Ty × Value)). handed_out x c.in_ok-job-in-Some-store.job) (sym cells) ∙ c.in_ok-job-in-Some-store.ensures in
     let o = c.in_ok-deliver_job-in-Some-store in
-    delivered_job d _ _ k o.field-0 _ _ _ c.write_delivered.result same o.ensures.told o.ensures.done (ap (λ (u : Option DeliverError). (delivery_step d k u).1) c.in-None-2.is) c.write_delivered.ensures
+    delivered_job d _ _ k o.field-0 _ _ _ c.write_delivered.result same o.ensures.refused o.ensures.done (ap (λ (u : Option DeliverError). (delivery_step d k u).1) c.in-None-2.is) c.write_delivered.ensures
 
 pub returns-in-Some-2-clause-step : goal.returns-in-Some-2-clause-step
 returns-in-Some-2-clause-step c =
@@ -31,4 +31,4 @@ returns-in-Some-2-clause-step c =
     let cells = store_of (state_of d).waiters c.args.kept.now c.in-Some-store.store c.requires.stored (sym c.in_default.ensures) c.in-Some-store.is in
     let same : handed_out c.in-Some-store.store c.in_ok-job-in-Some-store.job ≡ k = ap (λ (x : List (Ty × Value)). handed_out x c.in_ok-job-in-Some-store.job) (sym cells) ∙ c.in_ok-job-in-Some-store.ensures in
     let o = c.in_ok-deliver_job-in-Some-store in
-    delivered_job d _ _ k o.field-0 _ _ _ c.refuse_delivery-in-Some-2.result same o.ensures.told o.ensures.done (ap (λ (u : Option DeliverError). (delivery_step d k u).1) c.in-Some-2.is) c.refuse_delivery-in-Some-2.ensures.text
+    delivered_job d _ _ k o.field-0 _ _ _ c.refuse_delivery-in-Some-2.result same o.ensures.refused o.ensures.done (ap (λ (u : Option DeliverError). (delivery_step d k u).1) c.in-Some-2.is) c.refuse_delivery-in-Some-2.ensures.text

@@ -11,5 +11,5 @@ invariant_of-self c = kept_run next_drain _ _ _ _ c.drain-answer.result c.drain-
 pub returns : goal.returns
 returns c = rw (← c.self.view_is) (elim c.match-answer.branch [
   | in-Ok w ↦ rw (w.result-is, w.out-is) (run_ok next_drain drained_line _ _ _ _ _ _ _ w.write_drained.result w.in-Ok.ensures.done w.write_drained.ensures)
-  | in-Err w ↦ rw (w.result-is, w.out-is) (run_err next_drain drained_line _ _ _ _ _ _ _ _ w.write_drain_stop.result w.in-Err.ensures.done w.write_drain_stop.ensures.text w.write_drain_stop.ensures.told)
+  | in-Err w ↦ rw (w.result-is, w.out-is) (run_err next_drain drained_line _ _ _ _ _ _ _ _ w.write_drain_stop.result w.in-Err.ensures.done w.write_drain_stop.ensures.text w.write_drain_stop.ensures.memory)
 ])

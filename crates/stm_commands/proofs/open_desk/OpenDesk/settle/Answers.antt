@@ -11,5 +11,5 @@ invariant_of-self c = kept_run next_what _ _ _ _ c.settle-answer.result c.settle
 pub returns : goal.returns
 returns c = rw (← c.self.view_is) (elim c.match-answer.branch [
   | in-Ok w ↦ rw (w.result-is, w.out-is) (run_ok next_what settled_line _ _ _ _ _ _ _ w.write_settled.result w.in-Ok.ensures.done w.write_settled.ensures)
-  | in-Err w ↦ rw (w.result-is, w.out-is) (run_err next_what settled_line _ _ _ _ _ _ _ _ w.write_stop.result w.in-Err.ensures.done w.write_stop.ensures.text w.write_stop.ensures.told)
+  | in-Err w ↦ rw (w.result-is, w.out-is) (run_err next_what settled_line _ _ _ _ _ _ _ _ w.write_stop.result w.in-Err.ensures.done w.write_stop.ensures.text w.write_stop.ensures.memory)
 ])
