@@ -183,6 +183,7 @@ impl Desk {
                 },
             },
         );
+        self.past.let_few_go();
         Ok(ticket)
     }
 
@@ -216,6 +217,7 @@ impl Desk {
         let applied = self.machine.run(&plan)?;
         self.labels.remove(ticket);
         push_three(&mut self.history, events);
+        self.past.let_few_go();
         Ok((ticket, finish_by(plan, applied)))
     }
 

@@ -55,6 +55,7 @@ impl Desk {
             client,
             what: What::Cancelled { ticket },
         });
+        self.past.let_few_go();
         Ok(())
     }
 }

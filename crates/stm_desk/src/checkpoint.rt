@@ -65,9 +65,8 @@ impl Desk {
         let _variables = self.table.len();
         // It is known to be a checkpoint by this.
         let _next = checkpoint.next();
-        let alloc = *self.history.allocator();
         let events = self.history.len() as u32;
-        self.history = Vec::new(alloc);
+        self.past.take_events(&mut self.history);
         self.checkpoint = Some(checkpoint);
         events
     }

@@ -98,6 +98,7 @@ impl Desk {
                 value,
             },
         });
+        self.past.let_few_go();
         Ok(number)
     }
 }

@@ -81,6 +81,7 @@ impl Desk {
                     client,
                     what: What::Installed { ticket, verdict },
                 });
+                self.past.let_few_go();
                 Ok(())
             }
             Err(refused) => Err(refused),

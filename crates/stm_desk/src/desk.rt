@@ -4,6 +4,7 @@ ghost use Rattle.std.specs.Prelude.{◌≡◌, ◌≤◌, [], IfOk, None};
 ghost use Rattle.stm_terms.specs.Limits.{max_events as most_events};
 ghost use Rattle.stm_desk.specs.DeskView.{is_full};
 
+use crate::past::Past;
 use std::alloc::Global;
 use std::marker::Model;
 use stm_events::{Event, LabelTable, StalenessRule};
@@ -20,6 +21,8 @@ pub struct Desk {
     pub(crate) history: Vec<Event>,
     pub(crate) machine: Machine,
     pub(crate) labels: LabelTable,
+    // What is left of the history before the checkpoint: it is dropped a few events at a time, and no answer depends on it.
+    pub(crate) past: Past,
 }
 
 // Written out, and not derived, so that the proof of each owner calls it once.
@@ -32,6 +35,7 @@ impl Drop for Desk {
             history: _,
             machine: _,
             labels: _,
+            past: _,
         } = self;
     }
 }
@@ -83,6 +87,7 @@ impl Desk {
             history: Vec::new(alloc),
             machine,
             labels: LabelTable::empty(alloc),
+            past: Past::none(alloc),
         })
     }
 

@@ -151,6 +151,7 @@ impl Desk {
             plan,
             event,
         )?;
+        self.past.let_few_go();
         Ok(applied)
     }
 

@@ -76,6 +76,7 @@ impl Desk {
                 label: shared,
             },
         });
+        self.past.let_few_go();
         Ok(())
     }
 

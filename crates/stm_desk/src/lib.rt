@@ -19,6 +19,7 @@ pub mod desk;
 pub mod evaluate;
 pub mod finish;
 pub mod label;
+mod past;
 pub mod reason;
 pub mod resume;
 pub mod settle;

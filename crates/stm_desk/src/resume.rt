@@ -12,6 +12,7 @@ ghost use Rattle.stm_machine.specs.SettleChoices.{some_out};
 ghost use Rattle.stm_desk.specs.DeskView.{DeskQueueIsRight};
 
 use crate::desk::Desk;
+use crate::past::Past;
 use stm_events::{Event, LabelTable};
 use stm_machine::{Checkpoint, Machine};
 use stm_store::Table;
@@ -82,6 +83,7 @@ impl Desk {
         ensures none_out { some_out result.pending ≡ false }
     {
         machine.recall();
+        let past = Past::none(*events.allocator());
         let desk = Desk {
             table,
             checkpoint,
@@ -89,6 +91,7 @@ impl Desk {
             history: events,
             machine,
             labels,
+            past,
         };
         // The queue is known to be right by this.
         let _queue = desk.waiting();

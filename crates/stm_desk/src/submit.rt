@@ -70,6 +70,7 @@ impl Desk {
                 block: shared,
             },
         });
+        self.past.let_few_go();
         Ok(ticket)
     }
 }

@@ -23,7 +23,7 @@ invariant_of-self c =
     let s = state_of view in
     let labels = labels_of view in
     let is = checkpoint_of_fields c.self.view_is c.requires in
-    subst (λ (es : List Event). DeskInvariant d.table (Some c.args.checkpoint) d.limit es d.machine × HasLabels (Some c.args.checkpoint) es d.labels) (sym c.new.ensures.items) (
+    subst (λ (es : List Event). DeskInvariant d.table (Some c.args.checkpoint) d.limit es d.machine × HasLabels (Some c.args.checkpoint) es d.labels) (sym c.take_events.ensures.none) (
       checkpoint_kept _ _ _ _ _ k c.len-variables.ensures.typed labels (causes_of view) c.args.checkpoint is c.next-next.ensures.checkpoint,
       labels_kept s labels d.labels (causes_of view) d.checkpoint d.history.items c.args.checkpoint c.self.invariant.1 refl (labels_wait d.table d.checkpoint d.history.items k.start k.legal.each) is,
     )
@@ -36,7 +36,7 @@ returns-clause-unseen c =
     let s = state_of view in
     let labels = labels_of view in
     let is = checkpoint_of_fields c.self.view_is c.requires in
-    ap (λ (es : List Event). observed (state_from (checkpoint_state c.args.checkpoint) es)) c.new.ensures.items
+    ap (λ (es : List Event). observed (state_from (checkpoint_state c.args.checkpoint) es)) c.take_events.ensures.none
     ∙ unseen _ _ _ _ _ k c.len-variables.ensures.typed labels (causes_of view) c.args.checkpoint is c.next-next.ensures.checkpoint
     ∙ ap (λ (x : DeskView). observed (state_of x)) c.self.view_is
 
@@ -48,7 +48,7 @@ returns-clause-labels c = λ t.
     let s = state_of view in
     let labels = labels_of view in
     let is = checkpoint_of_fields c.self.view_is c.requires in
-    ap (λ (es : List Event). label_of t (labels_from (first_labels (Some c.args.checkpoint)) es)) c.new.ensures.items
+    ap (λ (es : List Event). label_of t (labels_from (first_labels (Some c.args.checkpoint)) es)) c.take_events.ensures.none
     ∙ ap (λ (x : CheckpointView). label_of t (first_labels (Some x))) is
     ∙ labels_caused s labels (causes_of view) t (labels_wait d.table d.checkpoint d.history.items k.start k.legal.each)
     ∙ ap (λ (x : DeskView). label_of t (labels_of x)) c.self.view_is
@@ -60,6 +60,6 @@ returns-clause-reasons c = λ t.
     let view = view_of d in
     let is = checkpoint_of_fields c.self.view_is c.requires in
     let stay = reasons_stay view k.start (typed_history _ _ _ _ _ k c.len-variables.ensures.typed) (subst IsCheckpoint is c.next-next.ensures.checkpoint) t in
-    ap (λ (es : List Event). reason_of (record view { checkpoint = Some c.args.checkpoint; history = es }) t) c.new.ensures.items
+    ap (λ (es : List Event). reason_of (record view { checkpoint = Some c.args.checkpoint; history = es }) t) c.take_events.ensures.none
     ∙ ap (λ (x : CheckpointView). reason_of (record view { checkpoint = Some x; history = [] }) t) is
     ∙ stay ∙ ap (λ (x : DeskView). reason_of x t) c.self.view_is
