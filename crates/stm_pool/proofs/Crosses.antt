@@ -1,7 +1,7 @@
 -- What may go from one thread to another, type by type. One search over a type with several blocks in it ends at its limits.
 use denote.Ref.{NamedLft}
 use denote.RattleType.{RattleType}
-use denote.Param.Send.{IsSend, IsSync, sendable}
+use denote.Param.Send.{IsSend, IsSync, sendable, view_send}
 use denote.Param.SendFields.{declared_send}
 use Rattle.std.specs.declared.sync.ledger.Ledger.{Ghosts}
 use Rattle.std.proofs.sync.ledger.Share.TheSendSync.{the_send as share_send}
@@ -25,7 +25,9 @@ use Rattle.stm_machine.specs.contracts.checkpoint.Checkpoint as checkpoint
 use Rattle.stm_store.specs.contracts.table.Table as table
 use Rattle.stm_store.specs.contracts.store.Store as store
 use Rattle.stm_queue.specs.contracts.pending.Pending as pending
+use Rattle.stm_desk.specs.contracts.past.Past as past
 use Rattle.stm_desk.specs.contracts.desk.Desk as desk
+use Rattle.stm_desk.specs.contracts.desk.Desk.TheInside as desk_fields
 use Rattle.stm_pool.specs.contracts.pass.Pass as pass
 use Rattle.stm_pool.specs.contracts.guarded.Guarded as guarded
 use Rattle.stm_pool.specs.contracts.shared.SharedDesk as shared
@@ -85,8 +87,15 @@ checkpoint_block_send = declared_send checkpoint_block.the_type (search (sendabl
 pub checkpoint_send : IsSend checkpoint.the_row
 checkpoint_send = search (sendable, crosses, store_send, checkpoint_block_send) depth 40 fits 100000
 
+pub past_send : IsSend past.the_row
+past_send = search (sendable, Vec-send, event_send) depth 40 fits 100000
+
+-- one search over all fields ends at its limits
+desk_fields_send : IsSend desk_fields.the_row
+desk_fields_send = declared_send desk_fields.the_type (search (sendable, table_send) depth 20, (search (sendable, checkpoint_send) depth 20, (search sendable depth 20, (search (sendable, Vec-send, event_send) depth 20, (search (sendable, machine_send) depth 20, (search (sendable, label_table_send) depth 20, (search (sendable, past_send) depth 20, tt)))))))
+
 pub desk_send : IsSend desk.the_row
-desk_send = search (sendable, Vec-send, event_send, table_send, checkpoint_send, machine_send, label_table_send) depth 40 fits 100000
+desk_send = view_send _ _ _ _ _ desk_fields_send
 
 module _ (L : RattleType) (g : Ghosts L.Denot) where
   pub pass_send : IsSend (pass.the_row L g)
