@@ -1,18 +1,65 @@
--- A history that begins in a new file, since the lines before its events are too long for a batch.
-use Rattle.std.proofs.Common.{◌≡◌, ◌⊎◌, inr, ⊎_elim, ℕ, List, [], ◌++◌, Bool, true, false, sym, ◌∙◌, ap, subst}
+-- A history that begins in a new file.
+use Rattle.std.proofs.Common.{◌≡◌, ◌⊎◌, inl, inr, ⊎_elim, ℕ, ◌≤◌, List, [], ◌++◌, Bool, true, false, Err, sym, ◌∙◌, ap, subst}
 use Rattle.stm_events.specs.declared.event.Event.{Event}
 use Rattle.stm_history_text.specs.HistoryText.{history_text}
 use Rattle.stm_history_text.specs.Starts.{Start}
+use Rattle.stm_journal.specs.declared.replace.ReplaceError.{ReplaceError}
+use Rattle.stm_journal.specs.declared.replace.ReplaceError.TheVariants.{Refused, Unfinished}
 use Rattle.stm_journal.specs.declared.sync_mode.SyncMode.{SyncMode}
 use Rattle.stm_journal.specs.declared.sync_mode.SyncMode.TheVariants.{Full, Append, Never}
-use Rattle.stm_journal.specs.Disk.{Disk, LeavesOnly}
+use Rattle.stm_journal.specs.Disk.{CrashLeaves, Disk, FailsOnlyByDisk, IsOneOf, LeavesOnly, Shows}
+use Rattle.stm_journal.specs.Journal.{IsAtRest}
+use Rattle.stm_journal.specs.Replacing.{OnRefused, error_within}
 use Rattle.stm_journal.specs.Text.{IsWhole}
-use Rattle.stm_journal.proofs.Moments.{weaker}
+use Rattle.stm_journal.proofs.Moments.{joined, weaker}
 use Rattle.stm_journal.proofs.Wholes.{recovered_whole}
-use Rattle.stm_history_file.specs.Durable.{HistoryKept, HasAllEventsOrNone, LeavesHistory, MayBecome}
+use Rattle.stm_history_file.specs.Durable.{BeginsAs, HistoryKept, HasAllEventsOrNone, KeepsHistories, LeavesHistory, MayBecome, file_text}
 use Rattle.stm_history_file.specs.declared.recording.HistoryFile.{HistoryFile}
 use Rattle.stm_history_file.proofs.Crashes.{stays_left, if_synced, nothing_dropped}
 
+-- a file that has the bytes that it had, and is at rest, keeps its histories
+still_kept : {D : Type 0} (disk : Disk D) (old new : HistoryFile D) → new.begun ≡ old.begun → new.format ≡ old.format
+    → Shows disk new.journal.device (disk.seen old.journal.device) → IsAtRest disk new.journal → KeepsHistories disk old new
+still_kept disk old new begun format seen rest honest start history k = record {
+  at_rest = rest honest;
+  text = seen honest ∙ k.text ∙ ap (λ (b : Bool). file_text b start history) (sym begun);
+  none = λ e. k.none (sym begun ∙ e);
+  format_is = λ e. format ∙ k.format_is (sym begun ∙ e);
+}
+
+-- a crash at any moment of two calls leaves what it might have left before the first
+left_before : {D : Type 0} (disk : Disk D) (old mid new : D) → ((t : ℕ) (c : List ℕ) → t ≤ disk.moment mid → disk.may_leave mid c → disk.left_since mid t c)
+    → LeavesOnly disk old mid (disk.may_leave old) → LeavesOnly disk mid new (disk.may_leave mid) → LeavesOnly disk old new (disk.may_leave old)
+left_before disk old mid new counts first second =
+    joined disk old mid new (disk.may_leave old) (disk.may_leave mid) (disk.may_leave old) first second (λ c left. left)
+    (λ c left. first.each c (counts (disk.moment old) c first.later left))
+
+-- no new file has taken the place of the old one, or it isn't known whether it has
+pub not_replaced : {D : Type 0} (disk : Disk D) (old new : HistoryFile D) (start : Start) (events : List Event) (mid other : D) (e : ReplaceError)
+    → new.begun ≡ old.begun → new.format ≡ old.format → ((t : ℕ) (c : List ℕ) → t ≤ disk.moment mid → disk.may_leave mid c → disk.left_since mid t c)
+    → Shows disk mid (disk.seen old.journal.device) → CrashLeaves disk old.journal.device mid (disk.may_leave old.journal.device)
+    → Shows disk other (history_text start events) → IsOneOf disk mid other new.journal.device
+    → OnRefused {T = Unit {0}} (Err e) (Shows disk new.journal.device (disk.seen mid)) → OnRefused {T = Unit {0}} (Err e) (IsAtRest disk new.journal)
+    → OnRefused {T = Unit {0}} (Err e) (CrashLeaves disk mid new.journal.device (disk.may_leave mid))
+    → FailsOnlyByDisk {T = Unit {0}} disk mid new.journal.device (Err (error_within e)) → BeginsAs disk old new start events (Err e)
+not_replaced disk old new start events mid other (Refused e) begun format counts same first text either seen rest second fault =
+    let same_bytes : Shows disk new.journal.device (disk.seen old.journal.device) = λ honest. seen honest ∙ same honest in
+    record {
+      seen = same_bytes;
+      kept = still_kept disk old new begun format same_bytes rest;
+      begun = begun;
+      format = format;
+      any_moment = λ honest. left_before disk old.journal.device mid new.journal.device counts (first honest) (second honest);
+    }
+not_replaced disk old new start events mid other (Unfinished e) begun format counts same first text either seen rest second fault =
+    record {
+      seen = λ honest. ⊎_elim (λ is. inl (is ∙ same honest)) (λ is. inr (is ∙ text honest)) (either honest);
+      long = λ honest long. absurd (⊎_elim (fault honest).cause.too_long (fault honest).cause.full long);
+      begun = begun;
+      format = format;
+    }
+
+-- ---- since the lines before the events are too long for a batch
 -- the text of a history with no events
 pub text_alone : (start : Start) (history : List Event) → history ≡ [] → history_text start (history ++ []) ≡ history_text start []
 text_alone start history none = ap (λ (es : List Event). history_text start (es ++ [])) none

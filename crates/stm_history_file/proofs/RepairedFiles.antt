@@ -1,6 +1,6 @@
 -- A file that was repaired has what was loaded of it.
-use Rattle.std.proofs.Common.{◌≡◌, inl, inr, ⊎_elim, ℕ, List, Bool, true, false, Option, Some, None, is_some, IfSome, [], ◌∷◌, refl, sym, ap, ap₂, ◌∙◌}
-use Rattle.std.specs.Prelude.{◌&&◌, ◌||◌, if◌then◌else◌}
+use Rattle.std.proofs.Common.{◌≡◌, inl, inr, ⊎_elim, ℕ, List, Bool, true, false, Option, Some, None, is_some, IfSome, [], ◌∷◌, refl, sym, ap, ap₂, ◌∙◌, subst, ◌<◌, Ok, Err}
+use Rattle.std.specs.Prelude.{◌⊎◌, ◌&&◌, ◌||◌, if◌then◌else◌, IsErrOf}
 use Rattle.std.proofs.lemmas.List.{append-nil}
 use Rattle.stm_store.specs.Naming.{is_gapless}
 use Rattle.stm_store.specs.Tables.{Declared}
@@ -16,9 +16,14 @@ use Rattle.stm_history.specs.Judgement.{AreEvents}
 use Rattle.stm_history.specs.Loading.{HasText, loaded_start}
 use Rattle.stm_history_text.specs.Starts.{IsLatest, are_plain_blocks, declares, format_for, format_of_start, is_declaration, is_labelling, labels_blocks}
 use Rattle.stm_history.specs.declared.loading.Loaded.{Loaded}
+use Rattle.stm_journal.specs.declared.error.JournalError.{JournalError}
+use Rattle.stm_journal.specs.declared.error.JournalError.TheVariants.{Failed, NoSpace, Full as FullFile, TooLong, TornTooLong}
+use Rattle.stm_journal.specs.Device.{HasCause}
 use Rattle.stm_journal.specs.Disk.{Disk}
-use Rattle.stm_journal.specs.Journal.{AtRest}
-use Rattle.stm_history_file.specs.Durable.{LoadedKept, LoadsFront, file_text, IsFormatFor, IsFormatOf}
+use Rattle.stm_journal.specs.Journal.{AtRest, most_batch}
+use Rattle.stm_journal.specs.Text.{dropped_count}
+use Rattle.stm_history_file.specs.Durable.{LoadedKept, LoadsFront, file_text, HasOpenCause, IsForeign, IsFormatFor, IsFormatOf, MayNotOpen}
+use Rattle.stm_history_file.specs.declared.resuming.OpenFault.TheVariants.{Journal}
 use Rattle.stm_history_file.specs.declared.recording.HistoryFile.{HistoryFile}
 
 pub has_loaded : {D : Type 0} (disk : Disk D) (new : HistoryFile D) (front : List ℕ) (loaded : Option Loaded) → new.begun ≡ is_some loaded → ((h : Loaded) → loaded ≡ Some h → new.format ≡ h.format) → LoadsFront front loaded
@@ -76,3 +81,31 @@ pub format_of_loaded : (format : ℕ) (loaded : Option Loaded) → (loaded ≡ N
     → IfSome loaded (λ h. IsFormatFor h.format h.checkpoint h.events.items) → IsFormatOf format loaded
 format_of_loaded format None none some is = inl (none refl)
 format_of_loaded format (Some h) none some is = (some h refl, is)
+
+-- ---- what may be opened
+-- a file that was repaired is no other file, and no more was dropped than a batch can have
+pub is_repaired : (file : List ℕ) (dropped : ℕ) (same : Type 0) (x : Unit {0}) → (IsForeign file → ⊥) → dropped ≡ dropped_count file
+    → (most_batch < dropped → IsErrOf {E = JournalError} (Ok x) TornTooLong × same) → MayNotOpen file → ⊥
+is_repaired file dropped same x own is refused (inl foreign) = own foreign
+is_repaired file dropped same x own is refused (inr more) = cc ((refused (subst (λ (n : ℕ). most_batch < n) (sym is) more)).0)
+
+-- one that wasn't is as it was, if more would have been dropped
+pub is_unrepaired : (file : List ℕ) (dropped : ℕ) (same refusal : Type 0) → (IsForeign file → ⊥) → dropped ≡ dropped_count file
+    → (most_batch < dropped → refusal × same) → MayNotOpen file → same
+is_unrepaired file dropped same refusal own is refused (inl foreign) = absurd (own foreign)
+is_unrepaired file dropped same refusal own is refused (inr more) = (refused (subst (λ (n : ℕ). most_batch < n) (sym is) more)).1
+
+-- why it wasn't
+pub repair_cause : (reads fault full : Type 0) (file : List ℕ) (dropped : ℕ) (e : JournalError) → dropped ≡ dropped_count file
+    → HasCause {T = Unit {0}} fault (record { full = ⊥; too_long = ⊥; torn_too_long = most_batch < dropped }) (Err e)
+    → HasOpenCause (reads ⊎ fault) fault (record { full = full; too_long = ⊥; torn_too_long = most_batch < dropped_count file }) (Journal e)
+repair_cause reads fault full file dropped e is cause = record {
+  failed = λ j. inr (cause.failed (passed e Failed j));
+  no_space = λ j. cause.no_space (passed e NoSpace j);
+  full = λ j. absurd (cause.full (passed e FullFile j));
+  too_long = λ j. cause.too_long (passed e TooLong j);
+  torn_too_long = λ j. subst (λ (n : ℕ). most_batch < n) is (cause.torn_too_long (passed e TornTooLong j));
+}
+  where
+    passed : (e f : JournalError) → Journal e ≡ Journal f → IsErrOf {T = Unit {0}} (Err e) f
+    passed e f j = let same : e ≡ f = cc j in ap (λ (x : JournalError). Err x) same

@@ -1,30 +1,35 @@
 -- The file of a history: nothing before its first batch, and then exactly the text of docs/HISTORY.md.
-use Rattle.std.specs.Prelude.{◌≡◌, ◌≢◌, ◌⊎◌, ⊤, ◌≤◌, ◌<◌, ◌+◌, ◌^◌, Option, Some, None, ℕ, Bool, true, false, IsTrue, List, [], ◌∷◌, ◌++◌, length, take, drop, codes, option_copied, Result, IsErr, IsErrOf}
+use Rattle.std.specs.Prelude.{◌≡◌, ◌≢◌, ◌⊎◌, ⊤, ◌≤◌, ◌<◌, ◌+◌, ◌^◌, Option, Some, None, ℕ, Bool, true, false, IsTrue, List, [], ◌∷◌, ◌++◌, length, take, drop, codes, option_copied, IfSome, Result, Ok, Err, IsErr, IsErrOf}
 use Rattle.std.specs.Borrow.{Bor}
 use Rattle.stm_store.specs.Tables.{Declared}
 use Rattle.stm_events.specs.declared.event.Event.{Event}
-use Rattle.stm_events.specs.SlowDesk.{Slow, after}
+use Rattle.stm_events.specs.Laws.{SubmittedAreWellTyped}
+use Rattle.stm_events.specs.SlowDesk.{Slow, after, state_from}
 use Rattle.stm_events.specs.States.{IsLegalFrom}
-use Rattle.stm_machine.specs.Checkpoints.{CheckpointView}
+use Rattle.stm_machine.specs.Checkpoints.{CheckpointView, MayStart, start_of}
+use Rattle.stm_machine.specs.Machine.{IsAt}
 use Rattle.stm_event_lines.specs.Fits.{FitsNames, FitsFormat}
 use Rattle.stm_event_lines.specs.Lines.{declaring_format}
 use Rattle.stm_history_text.specs.HistoryText.{event_lines, history_text, start_text}
 use Rattle.stm_history.specs.Judgement.{AreEvents, AreShortLines, FormatFits, StartFits}
-use Rattle.stm_history.specs.Loading.{IsWholeHistory, ReportsLoadFault, loaded_start}
-use Rattle.stm_history_text.specs.Starts.{Start, first_state, format_for, read_back, state_after_start}
+use Rattle.stm_history.specs.Loading.{HasText, IsWholeHistory, ReportsLoadFault, loaded_start}
+use Rattle.stm_history_text.specs.Starts.{BlocksAreOfText, Start, first_state, format_for, read_back, state_after_start}
 use Rattle.stm_history.specs.declared.loading.Loaded.{Loaded}
 use Rattle.stm_journal.specs.declared.sync_mode.SyncMode.{SyncMode}
 use Rattle.stm_journal.specs.declared.sync_mode.SyncMode.TheVariants.{Full, Append, Never}
 use Rattle.stm_journal.specs.declared.error.JournalError.{JournalError}
 use Rattle.stm_journal.specs.declared.error.JournalError.TheVariants.{Failed, NoSpace, Full as FullFile, TooLong, TornTooLong}
+use Rattle.stm_journal.specs.declared.replace.ReplaceError.{ReplaceError}
+use Rattle.stm_journal.specs.declared.replace.ReplaceError.TheVariants.{Refused, Unfinished}
 use Rattle.stm_journal.specs.Device.{Own}
-use Rattle.stm_journal.specs.Disk.{Disk, LeavesOnly, CrashLeaves, FailsOnlyIf, FailsOnlyIfAny}
+use Rattle.stm_journal.specs.Disk.{Disk, LeavesOnly, Shows, IsSettled, CrashLeaves, FailsOnlyIf, FailsOnlyIfAny}
 use Rattle.stm_journal.specs.FirstBatch.{IsBegun}
-use Rattle.stm_journal.specs.Journal.{AtRest, HasSameLines, most_batch}
+use Rattle.stm_journal.specs.Journal.{AtRest, HasSameLines, LeavesSameLines, ShowsSameLines, most_batch}
 use Rattle.stm_journal.specs.Text.{recovered, dropped_count}
 use Rattle.stm_history_file.specs.declared.recording.HistoryFile.{HistoryFile}
 use Rattle.stm_history_file.specs.declared.resuming.OpenFault.{OpenFault}
 use Rattle.stm_history_file.specs.declared.resuming.OpenFault.TheVariants.{Journal, History, Foreign}
+use Rattle.stm_history_file.specs.declared.resuming.Opened.{Opened}
 
 -- where a history in the format begins with this table and, if it does, from a checkpoint that is lent
 abbrev pub lent_start : ℕ → List Declared → Option (Bor CheckpointView) → Start
@@ -119,7 +124,7 @@ LeavesHistory sync zeros begun start history events file =
 abbrev pub history_front : List ℕ
 history_front = codes "{\"format\":"
 
--- It is some other file: it has no line of a history, and isn't one in which a first batch was begun.
+-- The file is some other one: it has no line of a history, and isn't one in which a first batch was begun.
 pub record IsForeign (file : List ℕ) : Type 0 where
   pub nothing : recovered file ≡ []
   pub other : IsBegun history_front file → ⊥
@@ -128,7 +133,7 @@ pub record IsForeign (file : List ℕ) : Type 0 where
 abbrev pub IsBegunOrWhole : List ℕ → List ℕ → Type 0
 IsBegunOrWhole batch file = IsBegun history_front file ⊎ (drop 1 file ≡ drop 1 batch)
 
--- If it is some other file, it has all of the first batch but for its first byte.
+-- A file that is some other one has all of the first batch but for its first byte.
 abbrev pub IsOwn : Bool → Start → List Event → List ℕ → Type 0
 IsOwn begun start events file = IsForeign file → (begun ≡ false) × (drop 1 file ≡ drop 1 (history_text start events))
 
@@ -139,7 +144,7 @@ abbrev pub Records : {D : Type 0} → Disk D → HistoryFile D → HistoryFile D
 Records disk old new start events =
     IsTrue disk.is_honest → (history : List Event) → HistoryKept disk old start history → HistoryKept disk new start (history ++ events)
 
--- it still has each history that it had
+-- the file still has each history that it had
 abbrev pub KeepsEach : {D : Type 0} → Disk D → HistoryFile D → HistoryFile D → Start → Type 0
 KeepsEach disk old new start =
     IsTrue disk.is_honest → (history : List Event) → HistoryKept disk old start history → HistoryKept disk new start history
@@ -162,6 +167,22 @@ LeavesOwn disk old new start events =
     IsTrue disk.is_honest → old.journal.sync ≢ Never → (history : List Event) → HistoryKept disk old start history
     → LeavesOnly disk old.journal.device new.journal.device (IsOwn old.begun start events)
     × IsOwn old.begun start events (disk.seen new.journal.device)
+
+-- The events were recorded.
+pub record HasRecorded {D : Type 0} (disk : Disk D) (old new : HistoryFile D) (start : Start) (events : List Event) : Type 0 where
+  -- they come after each history that the file had
+  pub kept : Records disk old new start events
+  -- the file has the lines before the events
+  pub begun : new.begun ≡ true
+  -- none of their lines is longer than a line of a history may be
+  pub short : (s : Slow) → FitLines start s events → AreEvents start.format s events
+
+-- What a crash at any moment leaves, while these events are recorded, and what an error leaves.
+pub record LeavesRecording {D : Type 0} (disk : Disk D) (old new : HistoryFile D) (start : Start) (events : List Event) : Type 0 where
+  -- the history from before, and of these events what the sync mode promises
+  pub left : LeavesAtAnyMoment disk old new start events
+  -- no other file, unless the crash tears the byte that opens the first batch
+  pub own : LeavesOwn disk old new start events
 
 -- a batch that is too long is refused before anything is written
 abbrev pub RefusesLongEvents : {D : Type 0} → HistoryFile D → HistoryFile D → Start → List Event → Result (Unit {0}) JournalError → Type 0
@@ -204,6 +225,46 @@ RefusalKeeps disk old new result =
     IsTrue disk.is_honest → IsErrOf result TooLong ⊎ IsErrOf result FullFile
     → (start : Start) (history : List Event) → HistoryKept disk old start history → HistoryKept disk new start history
 
+-- The file begins with this history: it has just that, and more can be recorded after it.
+pub record HasBegunWith {D : Type 0} (disk : Disk D) (f : HistoryFile D) (start : Start) (events : List Event) : Type 0 where
+  -- the file has exactly this history, on the disk if the journal syncs
+  pub kept : KeepsHistory disk f start events
+  -- it has the lines before the events
+  pub begun : f.begun ≡ true
+  -- in this format
+  pub format : f.format ≡ start.format
+  -- no line is longer than a line of a history may be
+  pub short : IsTrue disk.is_honest → AreShortLines (history_text start events)
+
+-- The file is as it was.
+pub record IsAsBefore {D : Type 0} (disk : Disk D) (old new : HistoryFile D) : Type 0 where
+  -- reads return the bytes that they returned
+  pub seen : Shows disk new.journal.device (disk.seen old.journal.device)
+  -- the file has each history that it had, and more can be recorded after it
+  pub kept : KeepsHistories disk old new
+  -- the first lines and the format are known as before
+  pub begun : new.begun ≡ old.begun
+  pub format : new.format ≡ old.format
+  -- a crash at any moment of the call leaves what it might have left before
+  pub any_moment : LeavesOld disk old new
+
+-- The file is as it was, or has just this history; more may be recorded only after it was opened again.
+pub record IsOldOrNew {D : Type 0} (disk : Disk D) (old new : HistoryFile D) (start : Start) (events : List Event) (e : JournalError) : Type 0 where
+  -- reads return the bytes that they returned, or just the text of the history
+  pub seen : IsOldOrAll disk old new (history_text start events)
+  -- after an error that says that something is too long, the file has each history that it had
+  pub long : RefusalKeeps disk old new (Err e)
+  -- the first lines and the format are known as before
+  pub begun : new.begun ≡ old.begun
+  pub format : new.format ≡ old.format
+
+-- What `begin_anew` has done to the file, by its result.
+abbrev pub BeginsAs :
+    {D : Type 0} → Disk D → HistoryFile D → HistoryFile D → Start → List Event → Result (Unit {0}) ReplaceError → Type 0
+BeginsAs disk old new start events (Ok x) = HasBegunWith disk new start events
+BeginsAs disk old new start events (Err (Refused e)) = IsAsBefore disk old new
+BeginsAs disk old new start events (Err (Unfinished e)) = IsOldOrNew disk old new start events e
+
 -- The call fails only if a disk does, if memory runs out, or if a line of the history or the file is too long.
 abbrev pub BeginsUnless : {D T : Type 0} → Disk D → Start → List Event → Result T JournalError → Type 0
 BeginsUnless disk start events result =
@@ -215,7 +276,8 @@ BeginsUnless disk start events result =
 
 -- ---- opening
 
--- it is the format of what was loaded, which is one for it; if nothing was, one for a history that has no checkpoint and no event yet
+-- the format is that of what was loaded, which is one for it; if nothing was loaded, one for a history that has no checkpoint and no
+-- event yet
 abbrev pub IsFormatOf : ℕ → Option Loaded → Type 0
 IsFormatOf format None = IsFormatFor format None []
 IsFormatOf format (Some h) = (format ≡ h.format) × IsFormatFor h.format h.checkpoint h.events.items
@@ -239,7 +301,7 @@ ReportsOpenFault (Journal e) file = ⊤
 ReportsOpenFault (History f) file = ReportsLoadFault f (recovered file)
 ReportsOpenFault Foreign file = IsForeign file
 
--- it is never opened: it is some other file, or more would be dropped than a batch can have
+-- the file is never opened: it is some other one, or more would be dropped than a batch can have
 abbrev pub MayNotOpen : List ℕ → Type 0
 MayNotOpen file = IsForeign file ⊎ (most_batch < dropped_count file)
 
@@ -257,14 +319,7 @@ JudgesUnless disk d e =
     IsTrue disk.is_honest
     → HasOpenCause (disk.reads_fail d) ⊥ (record { full = 2 ^ 62 < length (disk.seen d); too_long = ⊥; torn_too_long = ⊥ }) e
 
--- it is repaired unless the disk fails, memory runs out, or too much would be dropped
-abbrev pub RepairsUnless : {D : Type 0} → Disk D → D → D → OpenFault → Type 0
-RepairsUnless disk old new e =
-    let fault = disk.faults old < disk.faults new in
-    IsTrue disk.is_honest
-    → HasOpenCause fault fault (record { full = ⊥; too_long = ⊥; torn_too_long = most_batch < dropped_count (disk.seen old) }) e
-
--- it is opened unless one of these comes
+-- The file is opened unless the disk fails, memory runs out, the file is too long, or too much would be dropped.
 abbrev pub LoadsUnless : {D : Type 0} → Disk D → D → D → OpenFault → Type 0
 LoadsUnless disk old new e =
     let fault = disk.faults old < disk.faults new in
@@ -279,6 +334,55 @@ abbrev pub IsOfFile : OpenFault → Type 0
 IsOfFile (Journal e) = ⊥
 IsOfFile (History f) = ⊤
 IsOfFile Foreign = ⊤
+
+-- A desk can go on from what was loaded.
+pub record IsResumable (h : Loaded) : Type 0 where
+  -- a history may begin with its table, or from its checkpoint
+  pub start : MayStart h.table h.checkpoint
+  -- its events are legal from there
+  pub legal : IsLegalFrom (start_of h.table h.checkpoint) h.events.items
+  -- the machine is at the state that they lead to
+  pub machine : IsAt h.machine (state_from (start_of h.table h.checkpoint) h.events.items)
+  -- some text is its text
+  pub text : HasText (loaded_start h) h.events.items
+  -- each block that is submitted in it is well typed
+  pub typed : SubmittedAreWellTyped h.events.items
+
+-- The file of this device was opened, to be synced in this mode.
+pub record OpensAs {D : Type 0} (disk : Disk D) (device : D) (mode : SyncMode) (r : Opened D) : Type 0 where
+  -- a desk can go on from what was loaded, whatever the device is
+  pub resumable : IfSome r.loaded IsResumable
+  -- each waiting block of its checkpoint is that of its text
+  pub blocks : IfSome r.loaded (λ h. IfSome h.checkpoint BlocksAreOfText)
+  -- it is the history whose text the file's whole lines are
+  pub loaded : IsTrue disk.is_honest → LoadsFront (recovered (disk.seen device)) r.loaded
+  -- the file has exactly this history now, or nothing yet, and more can be recorded after it
+  pub kept : IsSettled disk device → HasLoaded disk r.file r.loaded
+  -- in the format of what was loaded, or in one for a new history
+  pub format : IsFormatOf r.file.format r.loaded
+  -- it is synced as was asked for
+  pub sync : r.file.journal.sync ≡ mode
+  -- the bytes were counted that come after the whole lines, and are dropped
+  pub dropped : IsTrue disk.is_honest → r.found.dropped ≡ dropped_count (disk.seen device)
+  -- it is no other file, and no more was dropped than a batch can have
+  pub may_open : IsTrue disk.is_honest → MayNotOpen (disk.seen device) → ⊥
+  -- a crash at any moment of the call leaves what it might have left before, or the same lines
+  pub any_moment : IsSettled disk device → LeavesSameLines disk device r.file.journal.device
+
+-- The file of this device wasn't opened, for this reason; `left` is the device that is handed back.
+pub record FailsToOpen {D : Type 0} (disk : Disk D) (device left : D) (e : OpenFault) : Type 0 where
+  -- it is the first error of the file
+  pub reported : IsTrue disk.is_honest → ReportsOpenFault e (disk.seen device)
+  -- an error of the journal has a cause
+  pub cause : LoadsUnless disk device left e
+  -- a file that was judged is as it was
+  pub unchanged : IsOfFile e → left ≡ device
+  -- so is another file, and one of which too much would be dropped
+  pub refused : IsTrue disk.is_honest → MayNotOpen (disk.seen device) → left ≡ device
+  -- a crash at any moment of the call leaves what it might have left before, or the same lines
+  pub any_moment : IsSettled disk device → LeavesSameLines disk device left
+  -- reads return the same lines
+  pub same_lines : ShowsSameLines disk device left
 
 -- ---- laws
 

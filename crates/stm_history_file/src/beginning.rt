@@ -1,13 +1,13 @@
 //! A history that begins, begins again from a checkpoint, or goes over to another format, in a new file.
 
-ghost use Rattle.std.specs.Prelude.{◌≡◌, [], true, false, Some, IsTrue, IfOk, OnOk, OnErr};
+ghost use Rattle.std.specs.Prelude.{◌≡◌, [], true, false, Some, IsTrue, IfOk, OnOk};
 ghost use Rattle.stm_events.specs.SlowDesk.{Slow};
 ghost use Rattle.stm_history_text.specs.HistoryText.{history_text, WritesText};
 ghost use Rattle.stm_history.specs.Judgement.{AreShortLines};
 ghost use Rattle.stm_journal.specs.Disk.{Shows, HasLength, IsOnDisk};
 ghost use Rattle.stm_journal.specs.NewFile.{written_bytes};
-ghost use Rattle.stm_journal.specs.Replacing.{OnRefused, journal_result};
-ghost use Rattle.stm_history_file.specs.Durable.{lent_start, KeepsAny, KeepsSome, KeepsHistory, KeepsHistories, LeavesOld, LeavesOldOrAll, IsOldOrAll, LeavesAtAnyMoment, RefusalKeeps, BeginsUnless, FitLines, Records};
+ghost use Rattle.stm_journal.specs.Replacing.{journal_result};
+ghost use Rattle.stm_history_file.specs.Durable.{lent_start, KeepsAny, KeepsSome, LeavesOldOrAll, LeavesAtAnyMoment, BeginsAs, BeginsUnless, FitLines, Records};
 
 use crate::measured::MeasuredFile;
 use crate::recording::HistoryFile;
@@ -94,22 +94,11 @@ impl<D: Replace + Drop> HistoryFile<D> {
     ) -> Result<(), ReplaceError>
         requires kept { KeepsAny D.disk self.old }
         requires fit { (s : Slow) × FitLines (lent_start format table.now checkpoint) s events.now }
-        ensures begins { OnOk result (KeepsHistory D.disk self.new (lent_start format table.now checkpoint.entry) events.now) }
-        ensures begun { OnOk result (self.new.begun ≡ true) }
-        ensures unbegun { OnErr result (self.new.begun ≡ self.old.begun) }
-        ensures format { OnOk result (self.new.format ≡ format) }
-        ensures format_left { OnErr result (self.new.format ≡ self.old.format) }
-        ensures sync { self.new.journal.sync ≡ self.old.journal.sync }
-        // No line is longer than a line of a history may be.
-        ensures short { IsTrue D.disk.is_honest → OnOk result (AreShortLines (history_text (lent_start format table.now checkpoint.entry) events.now)) }
-        // A crash at any moment of the call leaves what it might have left before, or the whole new file; after an error the file is
-        // the one or the other.
+        // What it has done to the file: on `Ok`, after a refusal, and after any other error.
+        ensures begins { BeginsAs D.disk self.old self.new (lent_start format table.now checkpoint.entry) events.now result }
+        // A crash at any moment of the call leaves what it might have left before, or the whole new file.
         ensures any_moment { LeavesOldOrAll D.disk self.old self.new (history_text (lent_start format table.now checkpoint.entry) events.now) }
-        ensures left { OnErr result (IsOldOrAll D.disk self.old self.new (history_text (lent_start format table.now checkpoint.entry) events.now)) }
-        // A refusal leaves each history as it was, and a crash at any moment of it what it might have left before.
-        ensures refused { OnRefused result (KeepsHistories D.disk self.old self.new) }
-        ensures refused_moment { OnRefused result (LeavesOld D.disk self.old self.new) }
-        ensures long { RefusalKeeps D.disk self.old self.new (journal_result result) }
+        ensures sync { self.new.journal.sync ≡ self.old.journal.sync }
         ensures fault { BeginsUnless D.disk (lent_start format table.now checkpoint.entry) events.now (journal_result result) }
     {
         let file = match self.journal.new_file(alloc) {

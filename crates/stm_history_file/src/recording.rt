@@ -2,11 +2,10 @@
 
 ghost use Rattle.std.specs.Prelude.{◌≡◌, ◌≢◌, ◌++◌, ◌+◌, ◌<◌, ◌≤◌, ◌^◌, [], true, false, IsTrue, length, take, OnOk, IfOk, IfErr};
 ghost use Rattle.stm_events.specs.SlowDesk.{Slow};
-ghost use Rattle.stm_history.specs.Judgement.{AreEvents};
 ghost use Rattle.stm_journal.specs.Disk.{Shows, CrashLeaves, FailsOnlyIf};
 ghost use Rattle.stm_journal.specs.Journal.{IsAtRest, MayLeave, most_batch};
 ghost use Rattle.stm_journal.specs.Text.{IsWhole};
-ghost use Rattle.stm_history_file.specs.Durable.{lent_start, history_front, IsBegunOrWhole, LeavesOwn, batch_text, batch_sync, KeepsSome, FitLines, Records, RefusesLongEvents, LeavesAtAnyMoment, RecordsUnless};
+ghost use Rattle.stm_history_file.specs.Durable.{lent_start, history_front, IsBegunOrWhole, batch_text, batch_sync, KeepsSome, FitLines, HasRecorded, LeavesRecording, RefusesLongEvents, RecordsUnless};
 
 use std::alloc::Global;
 use stm_events::Event;
@@ -103,19 +102,14 @@ impl<D: Device> HistoryFile<D> {
     ) -> Result<(), JournalError>
         requires kept { KeepsSome D.disk self.old (lent_start self.old.format table.now checkpoint) }
         requires fit { (s : Slow) × FitLines (lent_start self.old.format table.now checkpoint) s events.now }
-        ensures recorded { OnOk result (Records D.disk self.old self.new (lent_start self.old.format table.now checkpoint.entry) events.now) }
-        ensures begun { OnOk result (self.new.begun ≡ true) }
+        // The events come after those that the file has.
+        ensures recorded { OnOk result (HasRecorded D.disk self.old self.new (lent_start self.old.format table.now checkpoint.entry) events.now) }
+        // Whatever the result, a crash at any moment leaves the history from before, and of these events what the sync mode promises.
+        ensures any_moment { LeavesRecording D.disk self.old self.new (lent_start self.old.format table.now checkpoint.entry) events.now }
+        ensures refused { RefusesLongEvents self.old self.new (lent_start self.old.format table.now checkpoint.entry) events.now result }
+        ensures fault { RecordsUnless D.disk self.old self.new (lent_start self.old.format table.now checkpoint.entry) events.now result }
         ensures sync { self.new.journal.sync ≡ self.old.journal.sync }
         ensures format { self.new.format ≡ self.old.format }
-        // The lines that were recorded are no longer than a line of a history may be.
-        ensures short { OnOk result ((s : Slow) → FitLines (lent_start self.old.format table.now checkpoint.entry) s events.now
-            → AreEvents self.old.format s events.now) }
-        ensures refused { RefusesLongEvents self.old self.new (lent_start self.old.format table.now checkpoint.entry) events.now result }
-        // A crash at any moment, and an error, leave the history from before, and of these events what the sync mode promises.
-        ensures any_moment { LeavesAtAnyMoment D.disk self.old self.new (lent_start self.old.format table.now checkpoint.entry) events.now }
-        // None of these is foreign, unless a crash tears the byte that opens the first batch.
-        ensures own { LeavesOwn D.disk self.old self.new (lent_start self.old.format table.now checkpoint.entry) events.now }
-        ensures fault { RecordsUnless D.disk self.old self.new (lent_start self.old.format table.now checkpoint.entry) events.now result }
     {
         let batch = match batch_of(alloc, self.begun, self.format, table, checkpoint, events) {
             Ok(batch) => batch,

@@ -1,19 +1,14 @@
 //! A file of a history, opened again.
 
-ghost use Rattle.std.specs.Prelude.{◌≡◌, ◌<◌, ◌+◌, ◌^◌, None, Some, IsTrue, IfOk, IfErr, IfSome, MatchResult, length, take, drop};
+ghost use Rattle.std.specs.Prelude.{◌≡◌, ◌<◌, ◌+◌, ◌^◌, None, Some, IsTrue, IfOk, IfErr, IfSome, length, take, drop};
 ghost use Rattle.stm_event_lines.specs.Lines.{latest_format};
-ghost use Rattle.stm_events.specs.Laws.{SubmittedAreWellTyped};
-ghost use Rattle.stm_events.specs.SlowDesk.{state_from};
-ghost use Rattle.stm_events.specs.States.{IsLegalFrom};
-ghost use Rattle.stm_history.specs.Loading.{HasText, ReportsLoadFault, loaded_start};
+ghost use Rattle.stm_history.specs.Loading.{ReportsLoadFault};
 ghost use Rattle.stm_history_text.specs.Starts.{BlocksAreOfText};
 ghost use Rattle.stm_history.specs.declared.loading.Loaded.{Loaded as AnyLoaded};
-ghost use Rattle.stm_journal.specs.Disk.{IsSettled, Reaches, FailsOnlyByReads};
-ghost use Rattle.stm_journal.specs.Journal.{HasFound, LeavesSameLines, ShowsSameLines, most_batch};
-ghost use Rattle.stm_journal.specs.Text.{recovered, dropped_count};
-ghost use Rattle.stm_machine.specs.Checkpoints.{MayStart, start_of};
-ghost use Rattle.stm_machine.specs.Machine.{IsAt};
-ghost use Rattle.stm_history_file.specs.Durable.{HasLoaded, LoadsFront, IsFormatFor, IsFormatOf, ReportsOpenFault, IsOfFile, IsForeign, MayNotOpen, JudgesUnless, RepairsUnless, LoadsUnless};
+ghost use Rattle.stm_journal.specs.Disk.{Reaches, FailsOnlyByReads};
+ghost use Rattle.stm_journal.specs.Journal.{HasFound};
+ghost use Rattle.stm_journal.specs.Text.{recovered};
+ghost use Rattle.stm_history_file.specs.Durable.{IsResumable, OpensAs, FailsToOpen, LoadsFront, IsFormatFor, ReportsOpenFault, IsForeign, JudgesUnless};
 
 use crate::recording::{HISTORY_FRONT, HistoryFile};
 use std::alloc::Global;
@@ -49,13 +44,7 @@ fn load_front<D: Device>(
     len: usize,
 ) -> Result<Option<Loaded>, LoadFault>
     requires { Reaches D.disk device.now len }
-    ensures start { IfOk result (λ o. IfSome o (λ h. MayStart h.table h.checkpoint)) }
-    ensures legal { IfOk result (λ o. IfSome o (λ h.
-        IsLegalFrom (start_of h.table h.checkpoint) h.events.items)) }
-    ensures at { IfOk result (λ o. IfSome o (λ h. IsAt h.machine
-        (state_from (start_of h.table h.checkpoint) h.events.items))) }
-    ensures lines { IfOk result (λ o. IfSome o (λ h. HasText (loaded_start h) h.events.items)) }
-    ensures typed { IfOk result (λ o. IfSome o (λ h. SubmittedAreWellTyped h.events.items)) }
+    ensures resumable { IfOk result (λ o. IfSome o IsResumable) }
     ensures blocks { IfOk result (λ o. IfSome o (λ h. IfSome h.checkpoint BlocksAreOfText)) }
     ensures format { IfOk result (λ o. IfSome o (λ h. IsFormatFor h.format h.checkpoint h.events.items)) }
     ensures text { IsTrue D.disk.is_honest → IfOk result (LoadsFront (take len (D.disk.seen device.now))) }
@@ -121,13 +110,7 @@ fn judge<D: Device>(
     device: &D,
 ) -> Result<(Found, Option<Loaded>), OpenFault>
     ensures found { IfOk result (λ r. HasFound D.disk device.now r.0) }
-    ensures start { IfOk result (λ r. IfSome r.1 (λ h. MayStart h.table h.checkpoint)) }
-    ensures legal { IfOk result (λ r. IfSome r.1 (λ h.
-        IsLegalFrom (start_of h.table h.checkpoint) h.events.items)) }
-    ensures at { IfOk result (λ r. IfSome r.1 (λ h. IsAt h.machine
-        (state_from (start_of h.table h.checkpoint) h.events.items))) }
-    ensures lines { IfOk result (λ r. IfSome r.1 (λ h. HasText (loaded_start h) h.events.items)) }
-    ensures typed { IfOk result (λ r. IfSome r.1 (λ h. SubmittedAreWellTyped h.events.items)) }
+    ensures resumable { IfOk result (λ r. IfSome r.1 IsResumable) }
     ensures blocks { IfOk result (λ r. IfSome r.1 (λ h. IfSome h.checkpoint BlocksAreOfText)) }
     ensures format { IfOk result (λ r. IfSome r.1 (λ h. IsFormatFor h.format h.checkpoint h.events.items)) }
     ensures text { IsTrue D.disk.is_honest → IfOk result (λ r. LoadsFront (recovered (D.disk.seen device.now)) r.1) }
@@ -169,21 +152,13 @@ fn repaired<D: Device>(
     loaded: Option<Loaded>,
 ) -> Result<Opened<D>, (D, OpenFault)>
     requires found { HasFound D.disk device found }
+    requires resumable { IfSome loaded IsResumable }
+    requires blocks { IfSome loaded (λ h. IfSome h.checkpoint BlocksAreOfText) }
     requires text { IsTrue D.disk.is_honest → LoadsFront (recovered (D.disk.seen device)) loaded }
     requires format { IfSome loaded (λ h. IsFormatFor h.format h.checkpoint h.events.items) }
-    ensures loaded { IfOk result (λ r. r.loaded ≡ loaded) }
-    ensures found { IfOk result (λ r. r.found ≡ found) }
-    ensures sync { IfOk result (λ r. r.file.journal.sync ≡ sync) }
-    ensures format { IfOk result (λ r. IsFormatOf r.file.format r.loaded) }
-    ensures reported { IfErr result (λ e. ReportsOpenFault e.1 (D.disk.seen device)) }
-    ensures repair { IfErr result (λ e. IsOfFile e.1 → ⊥) }
-    ensures kept { IfOk result (λ r. IsSettled D.disk device → HasLoaded D.disk r.file loaded) }
-    ensures refused { IsTrue D.disk.is_honest → most_batch < dropped_count (D.disk.seen device)
-        → MatchResult result (λ _. ⊥) (λ e. e.0 ≡ device) }
-    ensures any_moment { IsSettled D.disk device → MatchResult result
-        (λ r. LeavesSameLines D.disk device r.file.journal.device) (λ e. LeavesSameLines D.disk device e.0) }
-    ensures left { IfErr result (λ e. ShowsSameLines D.disk device e.0) }
-    ensures fault { IfErr result (λ e. RepairsUnless D.disk device e.0 e.1) }
+    requires own { IsTrue D.disk.is_honest → IsForeign (D.disk.seen device) → ⊥ }
+    ensures opened { IfOk result (OpensAs D.disk device sync) }
+    ensures failed { IfErr result (λ e. FailsToOpen D.disk device e.0 e.1) }
 {
     match repair(&mut device, found) {
         Ok(()) => {
@@ -222,31 +197,10 @@ pub fn open_history<D: Device>(
     device: D,
     sync: SyncMode,
 ) -> Result<Opened<D>, (D, OpenFault)>
-    // The history may begin where it does, and is legal from there, whatever the device is; and the machine is at the state that it
-    // leads to.
-    ensures start { IfOk result (λ r. IfSome r.loaded (λ h. MayStart h.table h.checkpoint)) }
-    ensures legal { IfOk result (λ r. IfSome r.loaded (λ h.
-        IsLegalFrom (start_of h.table h.checkpoint) h.events.items)) }
-    ensures at { IfOk result (λ r. IfSome r.loaded (λ h. IsAt h.machine
-        (state_from (start_of h.table h.checkpoint) h.events.items))) }
-    ensures lines { IfOk result (λ r. IfSome r.loaded (λ h. HasText (loaded_start h) h.events.items)) }
-    ensures typed { IfOk result (λ r. IfSome r.loaded (λ h. SubmittedAreWellTyped h.events.items)) }
-    ensures blocks { IfOk result (λ r. IfSome r.loaded (λ h. IfSome h.checkpoint BlocksAreOfText)) }
-    // Its text is the file's whole lines, and the file then has exactly this text.
-    ensures loaded { IsTrue D.disk.is_honest → IfOk result (λ r. LoadsFront (recovered (D.disk.seen device)) r.loaded) }
-    ensures kept { IfOk result (λ r. IsSettled D.disk device → HasLoaded D.disk r.file r.loaded) }
-    ensures sync { IfOk result (λ r. r.file.journal.sync ≡ sync) }
-    ensures format { IfOk result (λ r. IsFormatOf r.file.format r.loaded) }
-    ensures dropped { IsTrue D.disk.is_honest → IfOk result (λ r. r.found.dropped ≡ dropped_count (D.disk.seen device)) }
-    // Otherwise the first error is reported. Another file is never opened, and what was judged is left as it was.
-    ensures reported { IsTrue D.disk.is_honest → IfErr result (λ e. ReportsOpenFault e.1 (D.disk.seen device)) }
-    ensures unchanged { IfErr result (λ e. IsOfFile e.1 → e.0 ≡ device) }
-    ensures refused { IsTrue D.disk.is_honest → MayNotOpen (D.disk.seen device) → MatchResult result (λ _. ⊥) (λ e. e.0 ≡ device) }
-    // A crash at any moment, and an error, leave what a crash might have left before the call, or the same lines.
-    ensures any_moment { IsSettled D.disk device → MatchResult result
-        (λ r. LeavesSameLines D.disk device r.file.journal.device) (λ e. LeavesSameLines D.disk device e.0) }
-    ensures left { IfErr result (λ e. ShowsSameLines D.disk device e.0) }
-    ensures fault { IfErr result (λ e. LoadsUnless D.disk device e.0 e.1) }
+    // What was loaded, and what the file has then.
+    ensures opened { IfOk result (OpensAs D.disk device sync) }
+    // Why the file isn't opened, and that it has the same lines.
+    ensures failed { IfErr result (λ e. FailsToOpen D.disk device e.0 e.1) }
 {
     match judge(alloc, seed, &device) {
         Ok((found, loaded)) => repaired(device, sync, found, loaded),

@@ -11,7 +11,7 @@ use Rattle.stm_history.specs.declared.loading.Loaded.{Loaded}
 use Rattle.stm_journal.specs.declared.sync_mode.SyncMode.{SyncMode}
 use Rattle.stm_journal.specs.Disk.{Disk, LeavesOnly}
 use Rattle.stm_journal.proofs.Moments.{weaker}
-use Rattle.stm_history_file.specs.Durable.{HasLoaded, HistoryKept, IsFormatFor, IsFormatOf, LoadedKept}
+use Rattle.stm_history_file.specs.Durable.{HasLoaded, HistoryKept, IsFormatFor, IsFormatOf, IsResumable, LoadedKept}
 use Rattle.stm_history_file.specs.declared.recording.HistoryFile.{HistoryFile}
 use Rattle.stm_event_lines.specs.Fits.{WhatFitsNames}
 use Rattle.stm_event_lines.specs.Lines.{declaring_format, rule_of}
@@ -21,8 +21,9 @@ use Rattle.stm_events.specs.declared.event.What.TheVariants as what
 use Rattle.stm_events.specs.SlowDesk.{Slow, after}
 use Rattle.stm_store.specs.Naming.{Named}
 use Rattle.stm_store.specs.Tables.{Declared}
-use Rattle.std.specs.Prelude.{◌⊎◌, if◌then◌else◌}
+use Rattle.std.specs.Prelude.{◌⊎◌, if◌then◌else◌, IsErrOf}
 use Rattle.stm_lines.specs.Lines.{lines_of}
+use Rattle.stm_lines.specs.declared.run_fault.RunFault.TheVariants.{Read}
 use Rattle.stm_run.specs.declared.console.Console.{Console}
 use Rattle.stm_run.specs.Console.{initial_console}
 use Rattle.stm_run.specs.Fitting.{VariablesFit}
@@ -30,7 +31,8 @@ use Rattle.stm_run.specs.LineCheckpoints.{Turn, states_after, answers_by, ForTur
 use Rattle.stm_run.proofs.EventsOfConsole.{grows_not}
 use Rattle.stm_journaled_run.specs.declared.fault.DurableFault.{DurableFault}
 use Rattle.stm_journaled_run.specs.declared.fault.DurableFault.TheVariants.{Run, Journal}
-use Rattle.stm_journaled_run.specs.DurableRun.{resumed_console, HasFormat, KeepsConsole, ConsoleKept, IsNoJournalFault, HasCommitted, LeavesBetween, CoversAnswers}
+use Rattle.stm_journaled_run.specs.DurableRun.{resumed_console, HasFormat, KeepsConsole, ConsoleKept, IsNoJournalFault, HasCommitted, LeavesBetween, CoversAnswers, RunsUnlessDisk}
+use Rattle.stm_journaled_run.specs.WholeRun.{RunView, AnswersInPart, AnswersWholeLines, RunFails}
 use Rattle.stm_journaled_run.specs.NewEvents.{AreTexts, IsOfItsText, MayBeginRun, needs_declaring_format}
 use Rattle.stm_journaled_run.specs.Committing.{HasFinished, HasFailed, LeavesRun}
 use Rattle.stm_journaled_run.proofs.Committing.{answers_append}
@@ -94,6 +96,11 @@ begins_by format o es (inl is) = by (needs_declaring_format es) is
     by : (b : Bool) → format ≡ (if b then declaring_format else format_of_start o) → IsFormatFor format o [] ⊎ (format ≡ declaring_format)
     by true is = inr is
     by false is = inl (inl is)
+
+-- what can be gone on from has a text
+pub has_text : (loaded : Option Loaded) → IfSome loaded IsResumable → IfSome loaded (λ h. HasText (loaded_start h) h.events.items)
+has_text None is = tt
+has_text (Some h) is = is.text
 
 pub may_begin : (format limit : ℕ) (loaded : Option Loaded) → IfSome loaded (λ h. HasText (loaded_start h) h.events.items) → IsFormatOf format loaded → MayBeginRun (resumed_console limit loaded)
 unfolding initial_console
@@ -195,6 +202,13 @@ module _ {D : Type 0} (Cause : Type 0) (disk : Disk D) (f : HistoryFile D) (was 
   pub is_covered : IsTrue disk.is_honest → (r : Result Unit DurableFault) → OnOk r (Over Finished) → IfErr r (λ e. Over (Failed e)) → Over Covered
   is_covered real (Ok x) h g = over Finished Covered (λ turns p. committed_covers turns (finished_is real turns p)) h
   is_covered real (Err e) h g = over (Failed e) Covered (failed_covers real e) g
+
+-- how a run failed
+pub run_failed : {D : Type 0} (disk : Disk D) (run : RunView) (r : Result Unit DurableFault) → OnErr r (AnswersInPart disk run)
+    → (IsErrOf r (Run Read) → AnswersWholeLines disk run) → IfErr r (RunsUnlessDisk disk) → IfErr r (RunFails disk run)
+run_failed disk run (Ok x) part whole cause = tt
+run_failed disk run (Err e) part whole cause =
+    record { part = part; whole = λ is. whole (ap (λ (x : DurableFault). Err x) is); cause = cause }
 
 -- a crash at any moment
 pub leaves_input : {D : Type 0} (Cause : Type 0) (disk : Disk D) (old new : D) (sync : SyncMode) (zeros : Bool) (every : ℕ) (s : Console) (input : Option (List ℕ))

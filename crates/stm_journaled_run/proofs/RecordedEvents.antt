@@ -13,12 +13,14 @@ use Rattle.stm_event_lines.specs.Lines.{declaring_format}
 use Rattle.stm_history_text.specs.HistoryText.{history_text, start_text}
 use Rattle.stm_history.specs.Judgement.{FitsBefore}
 use Rattle.stm_history_text.specs.Starts.{Start, declares, format_for, format_of_start, is_declaration, is_labelling, labels_blocks, written_start}
+use Rattle.stm_journal.specs.declared.replace.ReplaceError.{ReplaceError}
+use Rattle.stm_journal.specs.declared.replace.ReplaceError.TheVariants.{Refused, Unfinished}
 use Rattle.stm_journal.specs.declared.sync_mode.SyncMode.{SyncMode}
 use Rattle.stm_journal.specs.declared.sync_mode.SyncMode.TheVariants.{Full, Append, Never}
 use Rattle.stm_journal.specs.Disk.{Disk, LeavesOnly}
 use Rattle.stm_journal.specs.Text.{IsWhole}
 use Rattle.stm_journal.proofs.Moments.{weaker}
-use Rattle.stm_history_file.specs.Durable.{file_text, FitLines, HistoryKept, IsFormatFor, KeepsHistory, LeavesHistory}
+use Rattle.stm_history_file.specs.Durable.{BeginsAs, file_text, FitLines, HistoryKept, IsFormatFor, KeepsHistory, LeavesHistory}
 use Rattle.stm_history_file.specs.declared.recording.HistoryFile.{HistoryFile}
 use Rattle.stm_history_file.proofs.Crashes.{left_alone, stays, stays_left}
 use Rattle.stm_history_file.proofs.Texts.{IsWhole-history}
@@ -335,10 +337,11 @@ anew_kept disk f d c is none format begun kept =
       },
     )
 
-pub anew_kept_if : {D T E : Type 0} (disk : Disk D) (f : HistoryFile D) (d : OpenDesk) (c : CheckpointView) (r : Result T E) → Some c ≡ d.desk.checkpoint → d.desk.history ≡ [] → OnOk r (f.format ≡ format_for (Some c) []) → OnOk r (f.begun ≡ true)
-    → OnOk r (IsTrue disk.is_honest → HistoryKept disk f (record { format = format_for (Some c) []; table = d.desk.table; checkpoint = Some c }) []) → OnOk r (KeepsConsole disk f (Open d))
-anew_kept_if disk f d c (Ok x) is none format begun kept = anew_kept disk f d c is none format begun kept
-anew_kept_if disk f d c (Err x) is none format begun kept = tt
+pub anew_kept_if : {D : Type 0} (disk : Disk D) (old f : HistoryFile D) (d : OpenDesk) (c : CheckpointView) (r : Result Unit ReplaceError) → Some c ≡ d.desk.checkpoint → d.desk.history ≡ []
+    → BeginsAs disk old f (record { format = format_for (Some c) []; table = d.desk.table; checkpoint = Some c }) [] r → OnOk r (KeepsConsole disk f (Open d))
+anew_kept_if disk old f d c (Ok x) is none begins = anew_kept disk f d c is none begins.format begins.begun begins.kept
+anew_kept_if disk old f d c (Err (Refused e)) is none begins = tt
+anew_kept_if disk old f d c (Err (Unfinished e)) is none begins = tt
 
 checkpoint_start : (d : OpenDesk) (c : CheckpointView) → Some c ≡ d.desk.checkpoint → d.desk.history ≡ [] → written_start d.desk.table (Some c) [] ≡ start_of_console (Open d)
 checkpoint_start d c is none = ap₂ (λ (o : Option CheckpointView) (es : List Event). written_start d.desk.table o es) is (sym none)

@@ -4,8 +4,6 @@ use Rattle.std.specs.Io.KnownBytes.{Appends, Consumes}
 use Rattle.stm_terms.specs.Texts.{IsPrefixOf}
 use Rattle.stm_events.specs.declared.event.Event.{Event}
 use Rattle.stm_history_text.specs.Starts.{Start}
-use Rattle.stm_history.specs.declared.loading.Loaded.{Loaded}
-use Rattle.stm_options.specs.declared.options.Options.{Options}
 use Rattle.stm_journal.specs.declared.sync_mode.SyncMode.{SyncMode}
 use Rattle.stm_journal.specs.Disk.{Disk, LeavesOnly}
 use Rattle.stm_history_file.specs.Durable.{HistoryKept, LeavesHistory, MayBecome}
@@ -29,7 +27,7 @@ use Rattle.stm_journaled_run.specs.declared.session.Taken.{Taken}
 use Rattle.stm_journaled_run.specs.declared.session.Taken.TheVariants.{Held, Begun, Unmade, Streamed}
 use Rattle.stm_journaled_run.specs.declared.session.Tried.{Tried}
 use Rattle.stm_journaled_run.specs.declared.session.Tried.TheVariants.{Made, TicketsFull, RefusedByFile}
-use Rattle.stm_journaled_run.specs.DurableRun.{resumed_console, KeepsConsole, KeepsConsoles, RefusalCause, HasCommitted, LeavesBetween, CoversAnswers}
+use Rattle.stm_journaled_run.specs.DurableRun.{KeepsConsole, KeepsConsoles, RefusalCause, LeavesBetween, CoversAnswers}
 use Rattle.stm_journaled_run.specs.NewEvents.{MayBeginRun}
 
 -- What a crash may leave while events are recorded in batches, after a history: that and the batches before, and of one batch what
@@ -77,7 +75,7 @@ pub record IsBehind
   pub count : recorded ≡ length (events_of (states_after every s answered))
   pub kept : K (states_after every s answered)
 
--- The same, and no checkpoint was made since.
+-- The file has the history of some of these lines, the answers to the others are held, and no checkpoint was made since.
 pub record IsAfterLines
     {Cause : Type 0} (K : Console → Type 0) (every : ℕ) (s : Console) (lines : List (Turn Cause)) (old new : Option (List ℕ)) (console : Console)
     (held : List ℕ) (recorded : ℕ) : Type 0 where
@@ -100,7 +98,7 @@ pub record HasCome
   pub lines_are : AreLinesOf (turn_lines lines) taken
   pub after : IsAfterLines K every s lines old new console held recorded
 
--- it has taken all lines
+-- a run that began as s has taken all lines of its input
 pub record HasComeToEnd
     (Cause : Type 0) (K : Console → Type 0) (every : ℕ) (s : Console) (input old new : Option (List ℕ)) (console : Console) (held : List ℕ)
     (recorded : ℕ) : Type 0 where
@@ -178,7 +176,8 @@ LeavesBatchOf disk old new start events =
     IsTrue disk.is_honest → (history : List Event) → HistoryKept disk old start history
     → LeavesOnly disk old.journal.device new.journal.device (MayBecome disk old start history events)
 
--- The same, while they are recorded in batches.
+-- A crash at any moment, while events are recorded in batches, leaves each history that the file had, with some of the batches, and of
+-- one what the mode says.
 abbrev pub LeavesBatchesOf : {D : Type 0} → Disk D → HistoryFile D → HistoryFile D → Start → List Event → Type 0
 LeavesBatchesOf disk old new start events =
     IsTrue disk.is_honest → (history : List Event) → HistoryKept disk old start history
@@ -271,52 +270,9 @@ FailsAfter disk file file' every s lines old new e =
     HasFailed disk.is_honest file.journal.sync disk.fills_with_zeros (disk.may_leave file'.journal.device) (KeepsConsole disk file')
     every s lines old new e
 
--- the same of a run over an input, if it is known
+-- how a run over this file and this input stands after a fault, if the input is known
 abbrev pub FailsOver :
     {D : Type 0} → Disk D → HistoryFile D → HistoryFile D → ℕ → Console → Option (List ℕ) → Option (List ℕ) → Option (List ℕ)
     → DurableFault → Type 0
 FailsOver disk file file' every s input old new e =
     IfSome input (λ bytes. ForTurns (RefusalCause disk) (lines_of bytes) (λ turns. FailsAfter disk file file' every s turns old new e))
-
--- ---- a whole run, if its input is known
-
--- the answers to these lines, by a run with these options that goes on from what was loaded
-abbrev pub run_answers : {Cause : Type 0} → Options → Option Loaded → List (Turn Cause) → List ℕ
-run_answers options loaded turns = answers_by options.checkpoint_every (resumed_console options.max_events loaded) turns
-
--- the console after them
-abbrev pub console_after : {Cause : Type 0} → Options → Option Loaded → List (Turn Cause) → Console
-console_after options loaded turns = states_after options.checkpoint_every (resumed_console options.max_events loaded) turns
-
--- the answers to all lines were written, between these contents of the writer, and the file has exactly the history of all lines
-abbrev pub AnswersAllLines :
-    {D : Type 0} → Disk D → HistoryFile D → Options → Option Loaded → Option (List ℕ) → Option (List ℕ) → Option (List ℕ) → Type 0
-AnswersAllLines disk f options loaded input old new =
-    IfSome input (λ bytes. ForTurns (RefusalCause disk) (lines_of bytes) (λ turns.
-    Appends old new (run_answers options loaded turns) × KeepsConsole disk f (console_after options loaded turns)))
-
--- it has exactly the history of the lines whose answers were written
-abbrev pub KeepsAnswered :
-    {D : Type 0} → Disk D → HistoryFile D → Options → Option Loaded → Option (List ℕ) → Option (List ℕ) → Option (List ℕ) → Type 0
-KeepsAnswered disk f options loaded input old new =
-    IfSome input (λ bytes. ForTurns (RefusalCause disk) (lines_of bytes) (λ turns. (written : List ℕ) × Appends old new written
-    × HasCommitted disk f options.checkpoint_every (resumed_console options.max_events loaded) turns written))
-
--- a crash now leaves a file that covers what was written
-abbrev pub CoversWritten :
-    {D : Type 0} → Disk D → HistoryFile D → HistoryFile D → Options → Option Loaded → Option (List ℕ) → Option (List ℕ)
-    → Option (List ℕ) → Type 0
-CoversWritten disk file file' options loaded input old new =
-    IsTrue disk.is_honest → IfSome input (λ bytes. ForTurns (RefusalCause disk) (lines_of bytes) (λ turns.
-    (written : List ℕ) × Appends old new written
-    × ((c : List ℕ) → disk.may_leave file'.journal.device c
-    → CoversAnswers file.journal.sync disk.fills_with_zeros options.checkpoint_every (resumed_console options.max_events loaded)
-    turns written c)))
-
--- a crash at any moment of the run leaves the history from before it, and a front of the events of its lines
-abbrev pub RunLeaves : {D : Type 0} → Disk D → HistoryFile D → HistoryFile D → Options → Option Loaded → Option (List ℕ) → Type 0
-RunLeaves disk file file' options loaded input =
-    IsTrue disk.is_honest → IfSome input (λ bytes.
-    LeavesOnly disk file.journal.device file'.journal.device (λ c. ForTurns (RefusalCause disk) (lines_of bytes) (λ turns.
-    CoversAnswers file.journal.sync disk.fills_with_zeros options.checkpoint_every (resumed_console options.max_events loaded)
-    turns [] c)))

@@ -57,7 +57,7 @@ pub record ConsoleKept {D : Type 0} (disk : Disk D) (f : HistoryFile D) (s : Con
   pub format : HasFormat f s
   pub begun_if_open : f.begun ≡ is_open s
 
--- so on a disk that does what it says; the format is known on each
+-- the file has exactly the history of the console, if the disk does what it says; its format is known on each disk
 abbrev pub KeepsConsole : {D : Type 0} → Disk D → HistoryFile D → Console → Type 0
 KeepsConsole disk f s = HasFormat f s × (IsTrue disk.is_honest → ConsoleKept disk f s)
 
@@ -110,7 +110,7 @@ pub record CoversAnswers
   pub others : List (Turn Cause)
   pub parts : lines ≡ answered ++ others
   pub front : IsPrefixOf written (answers_by every s answered)
-  -- those after them whose events the file may have, too
+  -- the lines after them whose events the file may have, too
   pub reached : List (Turn Cause)
   pub unreached : List (Turn Cause)
   pub parts_reached : others ≡ reached ++ unreached

@@ -28,13 +28,13 @@ run_at file session written =
     record { file = file; console = session.console; held = string_bytes session.held; recorded = session.recorded; written = written }
 
 -- ---- from line to line
--- it began as `first` when `old` was written, and has taken these lines since
+-- the run began as `first` when `old` was written, and has taken these lines since
 abbrev pub HasTakenLines :
     {D : Type 0} → (disk : Disk D) → ℕ → Console → List (Turn (RefusalCause disk)) → Option (List ℕ) → DurableState D → Type 0
 HasTakenLines disk every first lines old r =
     IsAfterLines (KeepsConsole disk r.file) every first lines old r.written r.console r.held r.recorded
 
--- it has taken some lines, with a checkpoint at `every` events
+-- the run has taken some lines, with a checkpoint at `every` events
 abbrev pub IsBetweenLines : {D : Type 0} → Disk D → ℕ → DurableState D → Type 0
 IsBetweenLines disk every r =
     (first : Console) × (lines : List (Turn (RefusalCause disk))) × (old : Option (List ℕ)) × HasTakenLines disk every first lines old r
@@ -60,14 +60,14 @@ LinesLeave disk earlier file =
     (CoversAnswers earlier.file.journal.sync disk.fills_with_zeros every first lines [])
 
 -- ---- one line more
--- It takes this line, or any that is judged as it is, after those before it; its checkpoint may be refused.
+-- The run takes this line, or any that is judged as it is, after the lines before it; its checkpoint may be refused.
 abbrev pub AnswersLine : {D : Type 0} → Disk D → ℕ → List ℕ → DurableState D → DurableState D → Type 0
 AnswersLine disk every line earlier later =
     (first : Console) (before : List (Turn (RefusalCause disk))) (old : Option (List ℕ)) (judged : List ℕ)
     → line_class line ≡ line_class judged → HasTakenLines disk every first before old earlier
     → (refused : Option (RefusalCause disk)) × HasTakenLines disk every first (before ++ turn_of judged refused ∷ []) old later
 
--- it fails at this line
+-- the run fails at this line
 abbrev pub FailsAtLine : {D : Type 0} → Disk D → ℕ → List ℕ → DurableState D → HistoryFile D → Option (List ℕ) → DurableFault → Type 0
 FailsAtLine disk every line earlier file written e =
     (first : Console) (before : List (Turn (RefusalCause disk))) (old : Option (List ℕ)) (judged : List ℕ)
@@ -83,13 +83,13 @@ LineLeaves disk every line earlier file =
     (CoversAnswers earlier.file.journal.sync disk.fills_with_zeros every first (before ++ made_turn judged ∷ []) [])
 
 -- ---- over an input
--- it began as `first` when `old` was written, and has taken whole lines of this input, of which `rest` is still to be read
+-- the run began as `first` when `old` was written, and has taken whole lines of this input, of which `rest` is still to be read
 abbrev pub HasComeTo :
     {D : Type 0} → Disk D → ℕ → Console → Option (List ℕ) → Option (List ℕ) → Option (List ℕ) → DurableState D → Type 0
 HasComeTo disk every first input rest old r =
     HasCome (RefusalCause disk) (KeepsConsole disk r.file) every first input rest old r.written r.console r.held r.recorded
 
--- it is under way in some input
+-- the run is under way in some input
 abbrev pub IsUnderWay : {D : Type 0} → Disk D → ℕ → Option (List ℕ) → DurableState D → Type 0
 IsUnderWay disk every rest r = (first : Console) × (input old : Option (List ℕ)) × HasComeTo disk every first input rest old r
 
@@ -100,14 +100,14 @@ AnswersNext disk every rest rest' earlier later more =
     → MatchBool more (HasComeTo disk every first input rest' old later)
     (HasComeToEnd (RefusalCause disk) (KeepsConsole disk later.file) every first input old later.written later.console later.held later.recorded)
 
--- it fails in its input
+-- the run fails in its input
 abbrev pub FailsUnderWay :
     {D : Type 0} → Disk D → ℕ → Option (List ℕ) → DurableState D → HistoryFile D → Option (List ℕ) → DurableFault → Type 0
 FailsUnderWay disk every rest earlier file written e =
     (first : Console) (input old : Option (List ℕ)) → HasComeTo disk every first input rest old earlier
     → FailsOver disk earlier.file file every first input old written e
 
--- it has written the answers to all lines that were whole in what was taken, and this is left
+-- the run has written the answers to all lines that were whole in what was taken, and this is left
 abbrev pub WritesWhole : {D : Type 0} → Disk D → ℕ → Option (List ℕ) → DurableState D → Option (List ℕ) → Option (List ℕ) → Type 0
 WritesWhole disk every rest earlier left written =
     (first : Console) (input old : Option (List ℕ)) → HasComeTo disk every first input rest old earlier

@@ -26,7 +26,7 @@ IsInRange (Throws (Thrown n)) = FitsInt n
 IsInRange (Throws Overflow) = ⊤
 IsInRange Blocks = ⊤
 
--- those of the verdict of an event, if it has one, and the first value of a variable
+-- the numbers and values of an event's verdict are in range, if it has one, and so is the first value of a variable
 abbrev pub IsEventInRange : What → Type 0
 IsEventInRange (Submitted ticket block) = ⊤
 IsEventInRange (Installed ticket v) = IsInRange v
@@ -35,7 +35,7 @@ IsEventInRange (Cancelled ticket) = ⊤
 IsEventInRange (DeclaredLate name kind value) = FitsValue value
 IsEventInRange (Labelled ticket label) = ⊤
 
--- so of each event
+-- each event is in range
 abbrev pub AreEventsInRange : List Event → Type 0
 AreEventsInRange [] = ⊤
 AreEventsInRange (e ∷ es) = IsEventInRange e.what × AreEventsInRange es
@@ -45,7 +45,7 @@ AreEventsInRange (e ∷ es) = IsEventInRange e.what × AreEventsInRange es
 abbrev pub IsCellInRange : Cell → Type 0
 IsCellInRange c = FitsValue c.value × (c.count < 2 ^ 64)
 
--- so of each variable of a store
+-- each variable of a store is in range
 abbrev pub AreCellsInRange : List Cell → Type 0
 AreCellsInRange [] = ⊤
 AreCellsInRange (c ∷ cs) = IsCellInRange c × AreCellsInRange cs
@@ -55,11 +55,11 @@ abbrev pub IsHeldInRange : Option Held → Type 0
 IsHeldInRange None = ⊤
 IsHeldInRange (Some h) = FitWrites h.reads × IsInRange h.verdict
 
--- so of a waiting block, with its ticket and with why it is stale, if that is known
+-- the ticket of a waiting block is in range, what was delivered to it, and why it is stale, if that is known
 abbrev pub IsBlockInRange : CheckpointBlock → Type 0
 IsBlockInRange b = Is32Bit b.ticket × IsHeldInRange b.waiting.held × FitsCause b.cause
 
--- so of each waiting block
+-- each waiting block is in range
 abbrev pub AreBlocksInRange : List CheckpointBlock → Type 0
 AreBlocksInRange [] = ⊤
 AreBlocksInRange (b ∷ bs) = IsBlockInRange b × AreBlocksInRange bs

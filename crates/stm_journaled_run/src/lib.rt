@@ -9,7 +9,7 @@
 //! and `fault` why a run ends.
 //!
 //! What a reader has to believe is in `specs/DurableRun`: the console that a file gives, what the file has, and what a crash may
-//! leave.
+//! leave; and in `specs/WholeRun`: what holds when a run ends.
 #![tactic(auto)]
 
 mod beginning;

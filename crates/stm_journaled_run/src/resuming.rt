@@ -1,12 +1,8 @@
 //! The console that a file gives.
 
 ghost use Rattle.std.specs.Prelude.{◌≡◌, ◌≤◌, length, IfOk, IfSome};
-ghost use Rattle.stm_events.specs.Laws.{SubmittedAreWellTyped};
-ghost use Rattle.stm_events.specs.SlowDesk.{state_from};
 ghost use Rattle.stm_terms.specs.Limits.{max_events};
-ghost use Rattle.stm_events.specs.States.{IsLegalFrom};
-ghost use Rattle.stm_machine.specs.Checkpoints.{MayStart, start_of};
-ghost use Rattle.stm_machine.specs.Machine.{IsAt};
+ghost use Rattle.stm_history_file.specs.Durable.{IsResumable};
 ghost use Rattle.stm_journaled_run.specs.DurableRun.{resumed_console};
 
 use std::alloc::Global;
@@ -19,10 +15,7 @@ use stm_terms::NoMemory;
 
 /// A console that is open on a history.
 fn resumed(alloc: Global, loaded: Loaded, limit: u32) -> Result<Console, NoMemory>
-    requires start { MayStart loaded.table loaded.checkpoint }
-    requires legal { IsLegalFrom (start_of loaded.table loaded.checkpoint) loaded.events.items }
-    requires at { IsAt loaded.machine (state_from (start_of loaded.table loaded.checkpoint) loaded.events.items) }
-    requires typed { SubmittedAreWellTyped loaded.events.items }
+    requires resumable { IsResumable loaded }
     requires fits { length loaded.events.items ≤ limit }
     requires few { limit ≤ max_events }
     ensures { IfOk result (λ c. c ≡ resumed_console limit (Some loaded)) }
@@ -47,10 +40,7 @@ pub(crate) fn resumed_console(
     loaded: Option<Loaded>,
     limit: u32,
 ) -> Result<Console, NoMemory>
-    requires start { IfSome loaded (λ h. MayStart h.table h.checkpoint) }
-    requires legal { IfSome loaded (λ h. IsLegalFrom (start_of h.table h.checkpoint) h.events.items) }
-    requires at { IfSome loaded (λ h. IsAt h.machine (state_from (start_of h.table h.checkpoint) h.events.items)) }
-    requires typed { IfSome loaded (λ h. SubmittedAreWellTyped h.events.items) }
+    requires resumable { IfSome loaded IsResumable }
     requires fits { IfSome loaded (λ h. length h.events.items ≤ limit) }
     requires few { limit ≤ max_events }
     ensures { IfOk result (λ c. c ≡ resumed_console limit loaded) }

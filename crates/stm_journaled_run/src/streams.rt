@@ -1,23 +1,14 @@
 //! From the bytes of a reader to the bytes of a writer, with the events in a file.
 
-ghost use Rattle.std.specs.Prelude.{◌≡◌, ◌≢◌, ◌++◌, ◌+◌, ◌<◌, ◌≤◌, [], true, ℕ, List, Some, Ok, IsTrue, length, string_bytes, OnOk, OnErr, IfOk, IfErr, IfSome, IsErrOf};
-ghost use Rattle.std.specs.Io.KnownBytes.{Appends};
-ghost use Rattle.stm_terms.specs.Texts.{IsPrefixOf};
-ghost use Rattle.stm_events.specs.Laws.{SubmittedAreWellTyped};
-ghost use Rattle.stm_history.specs.Loading.{HasText, loaded_start};
-ghost use Rattle.stm_events.specs.SlowDesk.{state_from};
-ghost use Rattle.stm_events.specs.States.{IsLegalFrom};
-ghost use Rattle.stm_machine.specs.Checkpoints.{MayStart, start_of};
-ghost use Rattle.stm_machine.specs.Machine.{IsAt};
-ghost use Rattle.stm_history_file.specs.Durable.{HasLoaded, IsFormatOf};
-ghost use Rattle.stm_lines.specs.Lines.{lines_of, whole_lines_of};
+ghost use Rattle.std.specs.Prelude.{◌≡◌, ◌≢◌, ◌+◌, ◌<◌, ◌≤◌, [], true, ℕ, Ok, length, string_bytes, OnOk, IfOk, IfErr, IfSome, IsErrOf};
+ghost use Rattle.stm_history_file.specs.Durable.{HasLoaded, IsFormatOf, IsResumable};
 ghost use Rattle.stm_lines.specs.TakenLines.{bytes_to_come};
 ghost use Rattle.stm_lines.specs.Unread.{unread};
 ghost use Rattle.stm_options.specs.Options.{AreRunOptions};
 ghost use Rattle.stm_run.specs.ConsoleState.{events_of};
-ghost use Rattle.stm_run.specs.LineCheckpoints.{ForTurns};
-ghost use Rattle.stm_journaled_run.specs.DurableRun.{RunsUnlessDisk, RefusalCause, resumed_console, IsNoJournalFault};
-ghost use Rattle.stm_journaled_run.specs.Committing.{FailsOver, WholeLinesAnswered, run_answers, AnswersAllLines, KeepsAnswered, CoversWritten, RunLeaves};
+ghost use Rattle.stm_journaled_run.specs.DurableRun.{RunsUnlessDisk, RefusalCause, resumed_console};
+ghost use Rattle.stm_journaled_run.specs.WholeRun.{AnswersAllLines, RunFails, KeepsRun, run_view};
+ghost use Rattle.stm_journaled_run.specs.Committing.{FailsOver, WholeLinesAnswered};
 ghost use Rattle.stm_journaled_run.specs.GoingOn.{AnswersNext, FailsAfterLines, FailsUnderWay, FinishesOver, InputLeaves, IsBetweenLines, IsFresh, IsUnderWay, LinesLeave, NextLeaves, StaysAfterLines, WritesWhole, run_at};
 
 use crate::fault::DurableFault;
@@ -170,10 +161,7 @@ fn resumed_session<T: Threads + RandomSource + Sync>(
     options: Options,
 ) -> Result<DurableSession, NoMemory>
     requires options { AreRunOptions options }
-    requires start { IfSome loaded (λ h. MayStart h.table h.checkpoint) }
-    requires legal { IfSome loaded (λ h. IsLegalFrom (start_of h.table h.checkpoint) h.events.items) }
-    requires at { IfSome loaded (λ h. IsAt h.machine (state_from (start_of h.table h.checkpoint) h.events.items)) }
-    requires typed { IfSome loaded (λ h. SubmittedAreWellTyped h.events.items) }
+    requires resumable { IfSome loaded IsResumable }
     requires fits { IfSome loaded (λ h. length h.events.items ≤ options.max_events) }
     ensures console { IfOk result (λ s. s.console ≡ resumed_console options.max_events loaded) }
     ensures held { IfOk result (λ s. string_bytes s.held ≡ []) }
@@ -245,37 +233,20 @@ pub fn run_durable<T: Threads + RandomSource + Sync, R: Read, W: Write, D: Repla
     options: Options,
 ) -> Result<(), DurableFault>
     requires options { AreRunOptions options }
-    // As `open_history` returns it.
-    requires start { IfSome loaded (λ h. MayStart h.table h.checkpoint) }
-    requires legal { IfSome loaded (λ h. IsLegalFrom (start_of h.table h.checkpoint) h.events.items) }
-    requires at { IfSome loaded (λ h. IsAt h.machine (state_from (start_of h.table h.checkpoint) h.events.items)) }
-    requires lines { IfSome loaded (λ h. HasText (loaded_start h) h.events.items) }
-    requires typed { IfSome loaded (λ h. SubmittedAreWellTyped h.events.items) }
+    // As `open_history` returns them.
+    requires resumable { IfSome loaded IsResumable }
     requires kept { HasLoaded D.disk file.old loaded }
     requires format { IsFormatOf file.old.format loaded }
     requires fits { IfSome loaded (λ h. length h.events.items ≤ options.max_events) }
-    // The answers to all lines were written, and the file has exactly the history of all lines. Some of the checkpoints may have been
-    // refused, for a cause.
-    ensures answered { OnOk result (AnswersAllLines D.disk file.new options loaded (R.remaining reader.old)
-        (W.contents writer.old) (W.contents writer.new)) }
-    // After a read fault the answers to the lines that were whole before were written.
-    ensures read_fault { IsErrOf result (DurableFault.Run RunFault.Read) → IfSome (R.remaining reader.old) (λ input.
-        (taken rest : List ℕ) × (input ≡ taken ++ rest) × (R.remaining reader.new ≡ Some rest)
-        × ForTurns (RefusalCause D.disk) (whole_lines_of taken) (λ turns.
-        Appends (W.contents writer.old) (W.contents writer.new) (run_answers options loaded turns))) }
-    // After any fault a front of the answers was written.
-    ensures part { OnErr result (IfSome (R.remaining reader.old) (λ input. ForTurns (RefusalCause D.disk) (lines_of input) (λ turns.
-        (front : List ℕ) × IsPrefixOf front (run_answers options loaded turns)
-        × Appends (W.contents writer.old) (W.contents writer.new) front))) }
-    ensures sync { file.new.journal.sync ≡ file.old.journal.sync }
-    // After any fault but one of the journal the file has exactly the history of the lines whose answers were written.
-    ensures committed { IsTrue D.disk.is_honest → IsNoJournalFault result
-        → KeepsAnswered D.disk file.new options loaded (R.remaining reader.old) (W.contents writer.old) (W.contents writer.new) }
+    // The answers to all lines were written, and the file has exactly the history of all lines.
+    ensures answered { OnOk result (AnswersAllLines D.disk file.new (run_view options loaded
+        (R.remaining reader.old) (R.remaining reader.new) (W.contents writer.old) (W.contents writer.new))) }
+    // Otherwise a front of the answers was written.
+    ensures failed { IfErr result (RunFails D.disk (run_view options loaded
+        (R.remaining reader.old) (R.remaining reader.new) (W.contents writer.old) (W.contents writer.new))) }
     // Whatever the result, a crash now, and one at any moment of the run, leaves a file that covers what was written.
-    ensures covered { CoversWritten D.disk file.old file.new options loaded (R.remaining reader.old)
-        (W.contents writer.old) (W.contents writer.new) }
-    ensures any_moment { RunLeaves D.disk file.old file.new options loaded (R.remaining reader.old) }
-    ensures cause { IfErr result (RunsUnlessDisk D.disk) }
+    ensures file { KeepsRun D.disk file.old file.new (run_view options loaded
+        (R.remaining reader.old) (R.remaining reader.new) (W.contents writer.old) (W.contents writer.new)) result }
 {
     match resumed_session(rt, alloc, loaded, options) {
         Ok(mut session) => run_begun::<T, R, W, D, Brand>(

@@ -21,9 +21,8 @@ returns-clause-kept g c =
     let d = begun_anew c.args.desk.now in
     let k = c.args.checkpoint.now in
     let is : Some k ≡ d.desk.checkpoint = ap Some c.requires.taken in
-    let format = rw c.format_for-format.ensures at c.begin_anew.ensures.format in
     let begins = rw (c.format_for-format.ensures, c.table.ensures) at c.begin_anew.ensures.begins in
-    anew_kept_if g.D.Device.disk c.begin_anew.new.self d k c.begin_anew.result is (anew_none _ d c.requires.may) format c.begin_anew.ensures.begun begins
+    anew_kept_if g.D.Device.disk c.args.file.now c.begin_anew.new.self d k c.begin_anew.result is (anew_none _ d c.requires.may) begins
 
 pub returns-clause-may_begin : goal.returns-clause-may_begin
 returns-clause-may_begin g c =
@@ -36,7 +35,7 @@ returns-clause-may_begin g c =
     on_ok c.begin_anew.result _ (anew_begins _ d c.requires.may c.checkpoints_fit.ensures k is (subst (MayStart d.desk.table) is c.requires.start) known cells blocks)
 
 pub returns-clause-refused : goal.returns-clause-refused
-returns-clause-refused g c = consoles_kept g.D.Device.disk c.args.file.now c.begin_anew.new.self c.begin_anew.result c.begin_anew.ensures.refused c.begin_anew.ensures.unbegun c.begin_anew.ensures.format_left
+returns-clause-refused g c = consoles_kept g.D.Device.disk c.args.file.now c.begin_anew.new.self _ _ c.begin_anew.result c.begin_anew.ensures.begins
 
 pub returns-clause-any_moment : goal.returns-clause-any_moment
 returns-clause-any_moment g c = λ honest m.

@@ -7,7 +7,7 @@ use Rattle.test_files.proofs.OpenedFiles.{fits_again, fits_none, in_its_format, 
 use Rattle.test_files.proofs.history_file.begun_again.Goals as goal
 
 pub begin_anew-requires-clause-kept : goal.begin_anew-requires-clause-kept
-begin_anew-requires-clause-kept c honest = some_history _ _ _ (c.in-Ok.ensures.kept (λ h. refl) honest)
+begin_anew-requires-clause-kept c honest = some_history _ _ _ (c.in-Ok.ensures.opened.kept (λ h. refl) honest)
 
 pub begin_anew-requires-clause-fit : goal.begin_anew-requires-clause-fit
 begin_anew-requires-clause-fit c =
@@ -22,7 +22,7 @@ record-requires-clause-fit c =
     let first = first_state (loaded_start h) in
     let fit = fits_again (loaded_start h) h.events.items (text_of _ h c.in-Some.is c.in_ok-onward.ensures) in
     let same = subst (λ (o : Option CheckpointView). FitLines (record { format = h.format; table = h.table; checkpoint = o }) first h.events.items) c.in-Some-checkpoint.is fit in
-    (first, rw (c.in_ok-begin_anew.ensures.format, c.deref.ensures.value) same)
+    (first, rw (c.in_ok-begin_anew.ensures.begins.format, c.deref.ensures.value) same)
 
 pub record-requires-clause-kept : goal.record-requires-clause-kept
-record-requires-clause-kept c honest = ([], in_its_format _ _ _ _ _ _ c.in_ok-begin_anew.ensures.format (c.in_ok-begin_anew.ensures.begins honest))
+record-requires-clause-kept c honest = ([], in_its_format _ _ _ _ _ _ c.in_ok-begin_anew.ensures.begins.format (c.in_ok-begin_anew.ensures.begins.kept honest))

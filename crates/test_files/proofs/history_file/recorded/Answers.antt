@@ -7,7 +7,7 @@ use Rattle.test_files.proofs.OpenedFiles.{fits_again, none_yet, text_of}
 use Rattle.test_files.proofs.history_file.recorded.Goals as goal
 
 pub record-requires-clause-kept : goal.record-requires-clause-kept
-record-requires-clause-kept c honest = ([], none_yet _ _ _ c.in-Some-None.is-1 (c.in-Ok.ensures.kept (λ h. refl) honest) _)
+record-requires-clause-kept c honest = ([], none_yet _ _ _ c.in-Some-None.is-1 (c.in-Ok.ensures.opened.kept (λ h. refl) honest) _)
 
 pub record-requires-clause-fit : goal.record-requires-clause-fit
 record-requires-clause-fit c =
