@@ -23,7 +23,7 @@ renumbered_fits n (Truth b) p = tt
 renumbered_fits n Nil p = tt
 renumbered_fits n (Var r) p = tt
 
-under_fits : (store : List Cell) → AreCells64Bit store → AreVariables64Bit (under store)
+pub under_fits : (store : List Cell) → AreCells64Bit store → AreVariables64Bit (under store)
 under_fits [] c i = tt
 under_fits (d ∷ ds) c zero = c.0
 under_fits (d ∷ ds) c (suc i) = under_fits ds c.1 i
@@ -46,7 +46,7 @@ news_fit n [] [] c p = tt
 news_fit n [] (d ∷ ds) c p = (renumbered_fits n d.1 p.0, news_fit n [] ds tt p.1)
 news_fit n (e ∷ es) news c p = (c.0, news_fit n es news c.1 p)
 
-applied_fits : (cells : List Cell) (v : Verdict) → AreCells64Bit cells → IsVerdict64Bit v → AreCells64Bit (applied cells v)
+pub applied_fits : (cells : List Cell) (v : Verdict) → AreCells64Bit cells → IsVerdict64Bit v → AreCells64Bit (applied cells v)
 applied_fits cells (Commits writes news result) c p = news_fit (length cells) _ news (writes_fit (length cells) writes cells p.0 c) p.1
 applied_fits cells (Throws f) c p = c
 applied_fits cells Blocks c p = c

@@ -1,3 +1,3 @@
 mod WholeLives
-mod VerdictRange
-mod HistoryRange
+pub mod VerdictRange
+pub mod HistoryRange

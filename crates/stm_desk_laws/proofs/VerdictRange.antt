@@ -76,11 +76,11 @@ found_fits : (b : Bool) (v : Value) (o : Option Value) → Is64Bit v → IfSome 
 found_fits true v o p q = p
 found_fits false v o p q = q
 
-find_fits : (k : ℕ) (es : List (ℕ × Value)) → AreWrites64Bit es → IfSome (find k es) Is64Bit
+pub find_fits : (k : ℕ) (es : List (ℕ × Value)) → AreWrites64Bit es → IfSome (find k es) Is64Bit
 find_fits k [] h = tt
 find_fits k (e ∷ es) h = found_fits (nat_eq e.0 k) e.1 (find k es) h.0 (find_fits k es h.1)
 
-put_fits : (k : ℕ) (v : Value) (es : List (ℕ × Value)) → Is64Bit v → AreWrites64Bit es → AreWrites64Bit (put k v es)
+pub put_fits : (k : ℕ) (v : Value) (es : List (ℕ × Value)) → Is64Bit v → AreWrites64Bit es → AreWrites64Bit (put k v es)
 put_fits k v [] p h = (p, tt)
 put_fits k v (e ∷ es) p h = by (nat_lt e.0 k) (nat_eq e.0 k) (put_fits k v es p h.1)
   where
