@@ -11,13 +11,14 @@ use Rattle.stm_terms.specs.declared.values.Ref.TheVariants.{Old, New}
 use Rattle.stm_terms.specs.Limits.{most_refs}
 use Rattle.stm_terms.specs.Names.{is_name_text}
 use Rattle.stm_parse.specs.declared.fault.ParseFault.{ParseFault}
+use Rattle.stm_parse.specs.declared.token.Lexeme.{Lexeme}
 use Rattle.stm_parse.specs.declared.tokenizer.TokenClass.{TokenClass}
 use Rattle.stm_parse.specs.Declarations.{ParsedInit, literal, named, init_of}
 use Rattle.stm_parse.specs.Grammar.{At, at, greatest, WithinLimits, IsInit, is_number_init, is_negative_init, is_true_init, is_false_init, is_unit_init, is_name_init, DeclarationTree, IsDeclaration, is_declaration}
 use Rattle.stm_parse.specs.MaximalMunch.{IsLongest, Tokenization, token_before, IsTokenization, at_end, at_blank, at_token, at_fault, at_bad_byte}
 use Rattle.stm_parse.specs.NameTokens.{NamesOf}
 use Rattle.stm_parse.specs.ParseFunction.{IsAnswer, declared_tree, declaration_result, parsed_declaration, DeclarationAnswersAreRight}
-use Rattle.stm_parse.specs.ParseResult.{IsTextOf}
+use Rattle.stm_parse.specs.ParseResult.{Lexes, IsTextOf}
 use Rattle.stm_parse.specs.Tokenizer.{SpansRise}
 use Rattle.stm_parse.proofs.LongestTokenInFront.{nothing_is_no_token}
 use Rattle.stm_parse.proofs.TreeNamesAndSize.{names_of, kept_declaration}
@@ -60,26 +61,26 @@ rises place bytes told (at_token {n = m} {k = k} {cut = r} l f h) n e =
 rises place bytes told (at_fault l f) n e = tt
 rises place bytes told (at_bad_byte b f) n e = tt
 
+pub text_names : (text : List ℕ) (ls : List Lexeme) → Lexes text ls → NamesOf text ls
+text_names text ls lexes = subst (NamesOf text) (sym lexes.2) (names_of text 0 lexes.0 (rises 0 text (Ok lexes.0) lexes.1 (length text) (omega arith)))
+
 name_text : (text : List ℕ) (t : DeclarationTree) → IsTextOf IsDeclaration text t → is_name_text (text_at text t.name) ≡ true
-name_text text t h =
-    let lexes = (h.1).1 in
-    let names : NamesOf text h.0 = subst (NamesOf text) (sym lexes.2) (names_of text 0 lexes.0 (rises 0 text (Ok lexes.0) lexes.1 (length text) (omega arith))) in
-    (kept_declaration text h.0 t h.2 names).1
+name_text text t h = (kept_declaration text h.0 t h.2 (text_names text h.0 (h.1).1)).1
 
 -- ---- the first value is in range
 abbrev InitFits : ParsedInit → Type 0
 InitFits (literal v) = FitsValue v
 InitFits (named name place) = Unit {0}
 
-within_back : (us vs : List At) → WithinLimits (us ++ vs) → WithinLimits vs
+pub within_back : (us vs : List At) → WithinLimits (us ++ vs) → WithinLimits vs
 within_back [] vs w = w
 within_back (u ∷ us) vs w = within_back us vs w.1
 
-number_fits : (n : ℕ) → n ≤ greatest → n < 2 ^ 63
+pub number_fits : (n : ℕ) → n ≤ greatest → n < 2 ^ 63
 unfolding greatest
 number_fits n l = omega (arith, l)
 
-negative_fits : (n : ℕ) → n - 1 ≤ greatest → FitsInt (neg_ℤ (pos n))
+pub negative_fits : (n : ℕ) → n - 1 ≤ greatest → FitsInt (neg_ℤ (pos n))
 unfolding greatest
 negative_fits zero l = omega arith
 negative_fits (suc n) l = omega (arith, l)
@@ -168,7 +169,7 @@ IsLiteralInRange (value.Bool b) = Unit {0}
 IsLiteralInRange value.Unit = Unit {0}
 IsLiteralInRange (value.Var r) = Unit {0}
 
-literal_in_range : (v : Value) → FitsValue v → IsLiteralInRange v
+pub literal_in_range : (v : Value) → FitsValue v → IsLiteralInRange v
 literal_in_range (value.Int n) f = f
 literal_in_range (value.Bool b) f = tt
 literal_in_range value.Unit f = tt

@@ -525,7 +525,7 @@ waiting_stay_of_text = record {
 }
 
 -- the events and the checkpoint of a console are its own
-abbrev IsOwn : Console → Type 0
+abbrev pub IsOwn : Console → Type 0
 IsOwn s = IsOfConsole (present_desk s).desk
 
 own_waits : (s : Console) → IsOwn s → WaitAsTheirTexts s
@@ -545,9 +545,12 @@ moved_own : (b : Bool) (s t : Console) → MovesTo b s t → IsOwn s → IsOwn t
 moved_own true s t m h = subst IsOwn (sym m) (tt, checkpoint_texts s (own_waits s h))
 moved_own false s t m h = grown_own s t m h
 
+pub line_own : (s : Console) (line : List ℕ) → IsOwn s → IsOwn (state_after s line)
+line_own s line h = moved_own (line_checkpoints s line) s (state_after s line) (consoles_grow s line) h
+
 lines_own : (s : Console) (lines : List (List ℕ)) → IsOwn s → IsOwn (state_after_lines s lines)
 lines_own s [] h = h
-lines_own s (line ∷ rest) h = lines_own (state_after s line) rest (moved_own (line_checkpoints s line) s (state_after s line) (consoles_grow s line) h)
+lines_own s (line ∷ rest) h = lines_own (state_after s line) rest (line_own s line h)
 
 pub events_are_of_console : EventsAreOfConsole
 unfolding initial_console

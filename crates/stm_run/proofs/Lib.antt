@@ -8,7 +8,6 @@ pub mod DeskMoves
 pub mod DueQueue
 pub mod EventsOfConsole
 pub mod FitTables
-pub mod FittingEvents
 pub mod GivenLabels
 pub mod InputInParts
 pub mod LegalSettling

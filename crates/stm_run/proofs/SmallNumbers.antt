@@ -91,12 +91,12 @@ finish_small s t n v stale (Some w) small b e h = (
 )
 
 -- a variable that has a name is in the store
-within : (cells : List (Ty × Value)) (i : ℕ) (t : Ty) → kinds_of cells i ≡ Some t → i < length cells
+pub within : (cells : List (Ty × Value)) (i : ℕ) (t : Ty) → kinds_of cells i ≡ Some t → i < length cells
 within [] i t e = absurd cc
 within (c ∷ cells) zero t e = omega arith
 within (c ∷ cells) (suc i) t e = let h = within cells i t e in omega arith
 
-length-plains : (store : List Cell) → length (plains store) ≡ length store
+pub length-plains : (store : List Cell) → length (plains store) ≡ length store
 length-plains [] = refl
 length-plains (c ∷ store) = ap suc (length-plains store)
 

@@ -1,4 +1,5 @@
--- The events of a console's desk, and its checkpoint, can be in lines of a history.
+-- Of which texts the events of a console's desk and its checkpoint are. Their numbers and the declared variables can be in lines of a
+-- history.
 use Rattle.std.specs.Prelude.{◌≡◌, ◌≤◌, ℕ, List, [], ◌∷◌, length, IfSome, IsTrue, Ok, ⊤}
 use Rattle.stm_terms.specs.declared.values.Ref.TheVariants.{Old, New}
 use Rattle.stm_terms.specs.declared.values.Value.{Value}
@@ -12,7 +13,7 @@ use Rattle.stm_events.specs.declared.event.What.TheVariants.{Submitted, Installe
 use Rattle.stm_events.specs.Labels.{is_label}
 use Rattle.stm_events.specs.SlowDesk as slow
 use Rattle.stm_terms.specs.Limits as limits
-use Rattle.stm_event_lines.specs.Fits.{Is32Bit, FitNumbers, FitsNames, FitsVerdict}
+use Rattle.stm_event_lines.specs.Fits.{Is32Bit, FitNumbers, FitsVerdict}
 use Rattle.stm_history.specs.Judgement.{AreVariables}
 use Rattle.stm_history_text.specs.Starts.{BlocksAreOfText}
 use Rattle.stm_source.specs.CompiledBlock.{compiled_block}
@@ -98,7 +99,7 @@ NumbersAreSmall =
     (max_events : ℕ) → max_events ≤ limits.max_events → (before : List (List ℕ))
     → HaveSmallNumbers (present_desk (state_after_lines (initial_console max_events) before)).desk.history
 
--- ---- their lines
+-- ---- their values
 -- the numbers and values of each verdict are in range
 abbrev pub IsVerdictInRange : What → Type 0
 IsVerdictInRange (Submitted ticket block) = ⊤
@@ -112,19 +113,6 @@ IsVerdictInRange (Labelled ticket label) = ⊤
 abbrev pub AreVerdictsInRange : List Event → Type 0
 AreVerdictsInRange [] = ⊤
 AreVerdictsInRange (e ∷ es) = IsVerdictInRange e.what × AreVerdictsInRange es
-
--- each event, from a state on, can be in a line over the names of the state before it
-abbrev pub EventsFitNames : slow.Slow → List Event → Type 0
-EventsFitNames s [] = ⊤
-EventsFitNames s (e ∷ es) = FitsNames s.names e × EventsFitNames (slow.after s e.what) es
-
--- Whatever lines came before, each event of the desk can be in a line of a history, if the values of its verdict are in range.
-abbrev pub EventsFitLines : Type 0
-EventsFitLines =
-    (max_events : ℕ) → max_events ≤ limits.max_events → (before : List (List ℕ))
-    → AreVerdictsInRange (present_desk (state_after_lines (initial_console max_events) before)).desk.history
-    → EventsFitNames (start_state (present_desk (state_after_lines (initial_console max_events) before)).desk)
-    (present_desk (state_after_lines (initial_console max_events) before)).desk.history
 
 -- ---- the declared variables
 -- they can be in lines, and are no more than a table has

@@ -1,6 +1,6 @@
 //! What holds of the events of a console's desk, so that they can be in lines of a history: each function's contract is a law.
 
-ghost use Rattle.stm_run.specs.Fitting.{EventsAreOfConsole, EventsFitLines, NumbersAreSmall, VariablesFitLines, VariablesStayFit, WaitingStayOfText};
+ghost use Rattle.stm_run.specs.Fitting.{EventsAreOfConsole, NumbersAreSmall, VariablesFitLines, VariablesStayFit, WaitingStayOfText};
 ghost use Rattle.stm_run.specs.Growing.{ConsolesGrow};
 
 /// Each event of the desk since its last checkpoint is of client 0, each block that was submitted is what its text checks to over the
@@ -44,14 +44,4 @@ pub fn numbers_are_small()
     stm_check::laws::check_never_says_no_memory();
     stm_eval::laws::verdict_is_stable();
     stm_history::laws::checked_are_well_typed();
-}
-
-/// Each event of the desk can be in a line of a history, whatever lines came before, if the values of its verdict are in the
-/// range of the program's types, which no law says.
-pub fn events_fit_lines()
-    ensures { EventsFitLines }
-{
-    stm_parse::laws::answers_are_right();
-    events_are_of_console();
-    numbers_are_small();
 }

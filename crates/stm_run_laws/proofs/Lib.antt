@@ -4,7 +4,16 @@ mod AlikeSteps
 mod DeskAnswers
 mod EachAnswer
 mod EndedLines
+mod FittingEvents
+mod FittingStarts
+mod FittingVerdicts
+mod IntegersOfConsole
+mod KeptValues
+mod KnownNames
+mod LiteralsInRange
 mod LookingAlike
+mod NewVariablesMade
 mod QueueOfConsole
+mod ReadBack
 mod ShownVerdicts
 mod UnseenCheckpoints

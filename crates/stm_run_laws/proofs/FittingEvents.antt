@@ -1,4 +1,4 @@
--- An event of the console's client, of its text and with small numbers is in a line, if the values of its verdict are in range.
+-- An event of the console's client, of its text, with small numbers and with a verdict in range can be in a line.
 use Rattle.std.proofs.Common.{◌≡◌, ℕ, List, [], ◌∷◌, Ok, arith, subst}
 use Rattle.stm_parse.specs.ParseFunction.{DeclarationAnswersAreRight}
 use Rattle.stm_store.specs.Naming.{Named}
@@ -13,11 +13,12 @@ use Rattle.stm_desk.specs.DeskView.{start_state}
 use Rattle.stm_run.specs.Console.{initial_console}
 use Rattle.stm_run.specs.ConsoleState.{present_desk}
 use Rattle.stm_run.specs.AfterLines.{state_after_lines}
-use Rattle.stm_run.specs.Fitting.{IsOfText, AreOfConsole, EventsAreOfConsole, AreNumbersSmall, HaveSmallNumbers, NumbersAreSmall, IsVerdictInRange, AreVerdictsInRange, EventsFitNames, EventsFitLines}
+use Rattle.stm_run.specs.Fitting.{IsOfText, AreOfConsole, EventsAreOfConsole, AreNumbersSmall, HaveSmallNumbers, NumbersAreSmall, IsVerdictInRange, AreVerdictsInRange}
+use Rattle.stm_run_laws.specs.ReadBack.{VerdictsFitLines, EventsFitNames, EventsFitLines}
 use Rattle.stm_run.proofs.DeclaredVariables.{LateOrTold, late_judged, fits_value}
 
 module _ (declarations : DeclarationAnswersAreRight) where
-  variable_told : (known : List Named) (text : List ℕ) (v : Declared) → late_variable_of known text ≡ Ok v → LateOrTold (Ok v)
+  pub variable_told : (known : List Named) (text : List ℕ) (v : Declared) → late_variable_of known text ≡ Ok v → LateOrTold (Ok v)
   variable_told known text v e = subst LateOrTold e (late_judged declarations known text)
 
   what_fits : (known : List Named) (what : What) → IsOfText known what → AreNumbersSmall what → IsVerdictInRange what → WhatFitsNames known what
@@ -33,7 +34,7 @@ module _ (declarations : DeclarationAnswersAreRight) where
   all_fit s [] t n v = tt
   all_fit s (e ∷ es) t n v = ((omega (arith, t.0), what_fits s.names e.what t.1 n.0 v.0), all_fit (after s e.what) es t.2 n.1 v.1)
 
-  pub events_fit : EventsAreOfConsole → NumbersAreSmall → EventsFitLines
-  events_fit of_console small max_events low before verdicts =
+  pub events_fit : EventsAreOfConsole → NumbersAreSmall → VerdictsFitLines → EventsFitLines
+  events_fit of_console small verdicts max_events low before =
       let d = (present_desk (state_after_lines (initial_console max_events) before)).desk in
-      all_fit (start_state d) d.history (of_console max_events before).0 (small max_events low before) verdicts
+      all_fit (start_state d) d.history (of_console max_events before).0 (small max_events low before) (verdicts max_events low before)

@@ -1,5 +1,0 @@
-use Rattle.stm_run.proofs.FittingEvents.{events_fit}
-use Rattle.stm_run.proofs.fitting_laws.events_fit_lines.Goals as goal
-
-pub returns : goal.returns
-returns c = events_fit c.answers_are_right.ensures.declarations c.events_are_of_console.ensures c.numbers_are_small.ensures
