@@ -1,5 +1,5 @@
--- What is printed of the reason why a line of a script is faulty: a name, and the place of the cause if it has one.
-use Rattle.std.specs.Prelude.{ℕ, List, Option, Some, None, codes}
+-- What is written of a faulty line of a script: its number, and the reason by a name, with the place of the cause if it has one.
+use Rattle.std.specs.Prelude.{ℕ, List, [], ◌∷◌, ◌++◌, Option, Some, None, codes, decimal}
 use Rattle.stm_parse.specs.declared.fault.ParseFault.{ParseFault}
 use Rattle.stm_parse.specs.declared.fault.ParseFault.TheVariants as parse
 use Rattle.stm_check.specs.declared.fault.TypeFault.{TypeFault}
@@ -10,6 +10,7 @@ use Rattle.stm_source.specs.declared.refusal.Refusal.{Refusal}
 use Rattle.stm_source.specs.declared.refusal.Refusal.TheVariants.{Parsing, Typing, Unknown, Declaring}
 use Rattle.stm_script.specs.declared.script_fault.Reason.{Reason}
 use Rattle.stm_script.specs.declared.script_fault.Reason.TheVariants.{LineTooLong, NotAscii, Command, Argument, Late, NoClient, ClientsFull, ScriptTooLong, Refused}
+use Rattle.stm_script.specs.declared.script_fault.ScriptFault.{ScriptFault}
 
 -- a fault of the grammar; the console prints the same of it
 abbrev pub parse_fault_name : ParseFault → List ℕ
@@ -95,3 +96,16 @@ reason_place NoClient = None
 reason_place ClientsFull = None
 reason_place ScriptTooLong = None
 reason_place (Refused refusal) = refusal_place refusal
+
+-- which line is faulty
+abbrev pub script_fault_text : ScriptFault → List ℕ
+script_fault_text f = codes "stmdesk: script line " ++ decimal f.line
+
+-- the same with a name, and a place if there is one
+abbrev pub reason_line : ScriptFault → List ℕ → Option ℕ → List ℕ
+reason_line f name (Some place) = script_fault_text f ++ codes ": " ++ name ++ 32 ∷ decimal place ++ 10 ∷ []
+reason_line f name None = script_fault_text f ++ codes ": " ++ name ++ 10 ∷ []
+
+-- what is written of a faulty line: its number, and the same again with the reason
+abbrev pub script_fault_lines : ScriptFault → List ℕ
+script_fault_lines f = script_fault_text f ++ 10 ∷ reason_line f (reason_name f.reason) (reason_place f.reason)

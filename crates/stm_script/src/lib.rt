@@ -5,7 +5,7 @@
 //! `script_reader` reads a script, or says by `reading_fault` why it wasn't read.
 //!
 //! What a reader has to believe is in these modules of specs/: `StormScript` has what a script says, or its first faulty line
-//! and why it is faulty, `FaultText` the names of the reasons, and `Limits` how many sections there may be.
+//! and why it is faulty, `FaultText` what is written of that, and `Limits` how many sections there may be.
 #![tactic(auto)]
 
 mod begun_section;
@@ -19,5 +19,5 @@ pub mod storm_word;
 pub mod variables;
 
 pub use reading_fault::ReadingFault;
-pub use script_fault::{Reason, ScriptFault};
+pub use script_fault::{Reason, ScriptFault, write_script_fault};
 pub use section::{MAX_SECTIONS, Section, Task};

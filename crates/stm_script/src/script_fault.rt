@@ -1,13 +1,16 @@
 //! Why a line of a script is faulty.
 
-ghost use Rattle.std.specs.Prelude.{◌≡◌};
-ghost use Rattle.stm_script.specs.FaultText.{declare_error_name, parse_fault_name, parse_fault_place, reason_name, reason_place, refusal_name, refusal_place, type_fault_name, type_fault_place};
+ghost use Rattle.std.specs.Prelude.{◌≡◌, OnOk};
+ghost use Rattle.std.specs.Io.KnownBytes.{Appends};
+ghost use Rattle.stm_script.specs.FaultText.{declare_error_name, parse_fault_name, parse_fault_place, reason_line, reason_name, reason_place, refusal_name, refusal_place, script_fault_lines, type_fault_name, type_fault_place};
 
+use std::error::Error;
+use std::fmt::{self, Display, Formatter};
+use std::io::{self, Write};
 use stm_check::TypeFault;
 use stm_parse::ParseFault;
 use stm_source::Refusal;
 use stm_store::DeclareError;
-use thiserror::Error;
 
 /// Why a line of a script is faulty: the first reason that holds (docs/STORM.md, "Scripts").
 #[derive(Clone, Copy, PartialEq, Eq, Debug)]
@@ -33,12 +36,25 @@ pub enum Reason {
 }
 
 /// The first faulty line of a script: its number, counted from 1, and why it is faulty.
-#[derive(Clone, Copy, PartialEq, Eq, Debug, Error)]
-#[error("stmdesk: script line {line}")]
+#[derive(Clone, Copy, PartialEq, Eq, Debug)]
 pub struct ScriptFault {
     pub line: u32,
     pub reason: Reason,
 }
+
+impl Display for ScriptFault {
+    ghost use Rattle.std.specs.Prelude.{Some};
+    ghost use Rattle.stm_script.specs.FaultText.{script_fault_text};
+
+    ghost output = { λ f. Some (script_fault_text f) };
+
+    fn fmt<W: fmt::Write>(&self, f: &mut Formatter<W>) -> fmt::Result {
+        let line = self.line;
+        write!(f, "stmdesk: script line {line}")
+    }
+}
+
+impl Error for ScriptFault {}
 
 fn parse_name(fault: ParseFault) -> &'static str
     ensures { result.now ≡ parse_fault_name fault }
@@ -156,4 +172,29 @@ impl Reason {
             _ => None,
         }
     }
+}
+
+/// Writes the line of a fault with the name and the place of its reason.
+fn write_reason<W: Write>(
+    fault: ScriptFault,
+    name: &str,
+    place: Option<usize>,
+    writer: &mut W,
+) -> io::Result<()>
+    ensures { OnOk result (Appends (W.contents writer.old) (W.contents writer.new)
+        (reason_line fault name.now place)) }
+{
+    match place {
+        Some(place) => writeln!(writer, "{fault}: {name} {place}"),
+        None => writeln!(writer, "{fault}: {name}"),
+    }
+}
+
+/// Writes which line of a script is faulty, and the same again with why. After an error a part of that may be written.
+pub fn write_script_fault<W: Write>(fault: ScriptFault, writer: &mut W) -> io::Result<()>
+    ensures { OnOk result (Appends (W.contents writer.old) (W.contents writer.new)
+        (script_fault_lines fault)) }
+{
+    writeln!(writer, "{fault}")?;
+    write_reason(fault, fault.reason.name(), fault.reason.place(), writer)
 }
