@@ -27,13 +27,14 @@ use std::sync::Wait;
 use std::thread::Threads;
 use stm_command_line::version::version_line;
 use stm_command_line::{Request, read_words};
+use stm_explore_script::diagnostics::{write_fault_diagnostics, write_right_diagnostics};
 use stm_explore_script::exploring::explore_with;
 use stm_explore_script::{ExploreFault, Warning};
 use stm_lines::RunFault;
 use stm_lines::output::{flush, write_flushed};
 use stm_options::{ExploreOptions, Options};
 use stm_run::run;
-use stm_script::ScriptFault;
+use stm_script::{ScriptFault, write_script_fault};
 use stm_store::Seed;
 use stm_storm::{StormFault, storm};
 
@@ -115,16 +116,7 @@ fn print_words<W: Write, E: Write>(
 fn report_script<E: Write>(fault: ScriptFault, errors: &mut E) -> u8
     ensures { result ≡ FAILED }
 {
-    let _ = writeln!(errors, "{fault}");
-    let name = fault.reason.name();
-    match fault.reason.place() {
-        Some(place) => {
-            let _ = writeln!(errors, "{fault}: {name} {place}");
-        }
-        None => {
-            let _ = writeln!(errors, "{fault}: {name}");
-        }
-    }
+    let _ = write_script_fault(fault, errors);
     FAILED
 }
 
@@ -143,12 +135,7 @@ fn report_storm<E: Write>(fault: StormFault, errors: &mut E) -> u8
 fn report_right<E: Write>(options: ExploreOptions, warnings: &[Warning], errors: &mut E) -> u8
     ensures { result ≡ DONE }
 {
-    if options.history {
-        let _ = writeln!(errors, "stmdesk: right: there is no history of a fault");
-    }
-    for warning in warnings {
-        let _ = writeln!(errors, "{warning}");
-    }
+    let _ = write_right_diagnostics(options.history, warnings, errors);
     DONE
 }
 
@@ -157,24 +144,14 @@ fn report_right<E: Write>(options: ExploreOptions, warnings: &[Warning], errors:
 fn report_exploration<E: Write>(fault: ExploreFault, options: ExploreOptions, errors: &mut E) -> u8
     ensures { result ≡ explore_status fault }
 {
+    let _ = write_fault_diagnostics(options.history, fault, errors);
     match fault {
         ExploreFault::Run(fault) => report(fault, errors),
-        ExploreFault::Script(fault) => report_script(fault, errors),
+        ExploreFault::Script(_) => FAILED,
         ExploreFault::Faulty => NOT_RIGHT,
-        ExploreFault::Incomplete => {
-            if options.history {
-                let _ = writeln!(errors, "{}", ExploreFault::Incomplete);
-            }
-            NOT_RIGHT
-        }
-        ExploreFault::NoRoom => {
-            let _ = writeln!(errors, "{}", ExploreFault::NoRoom);
-            NOT_RIGHT
-        }
-        ExploreFault::Replay => {
-            let _ = writeln!(errors, "{}", ExploreFault::Replay);
-            FAILED
-        }
+        ExploreFault::Incomplete => NOT_RIGHT,
+        ExploreFault::NoRoom => NOT_RIGHT,
+        ExploreFault::Replay => FAILED,
     }
 }
 
