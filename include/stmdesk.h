@@ -1,7 +1,7 @@
 /*
 ** stmdesk in the process of its caller. A desk is the console of docs/CONSOLE.md: lines go in, and the bytes that `./stmdesk run` would
 ** print come out (stmdesk_new, stmdesk_feed, stmdesk_free). A history is checked, and a script explored, without a desk (stmdesk_check,
-** stmdesk_explore). docs/EMBEDDING.md says how the library is built, what is proved of it, and what isn't.
+** stmdesk_explore, stmdesk_explore_with_diagnostics). docs/EMBEDDING.md says how the library is built, what is proved of it, and what isn't.
 **
 ** An example. It prints what a desk answers to three lines:
 **
@@ -211,9 +211,9 @@ typedef struct {
     bool progress;       /* whether it is a fault if a client can't ever do its next step again; then each state is met and counted, too */
 } stmdesk_explore_options;
 
-/* What an exploration found besides its text. stmdesk_explore sets both, whatever its status is. */
+/* What an exploration found besides its text. Both are set, whatever the status is. */
 typedef struct {
-    size_t length; /* how many bytes the text has */
+    size_t length; /* how many bytes the text has, without the diagnostics */
     uint32_t line; /* STMDESK_BAD_SCRIPT: the number of the first invalid line, counted from 1; else 0 */
 } stmdesk_explored;
 
@@ -231,6 +231,15 @@ typedef struct {
 */
 uint32_t stmdesk_explore(const uint8_t *script, size_t script_length, const stmdesk_explore_options *options,
                          stmdesk *text, stmdesk_explored *explored);
+
+/*
+** The same as stmdesk_explore, for callers who show their user what may be wrong with a script. After the explored->length bytes of the text
+** its diagnostics wait: the lines that `./stmdesk explore` writes to standard error, each ended by '\n'. After STMDESK_RIGHT these are the
+** warnings, after STMDESK_BAD_SCRIPT the number of the invalid line and why it is invalid, and with `history`, if there is none, why not; else
+** there are none (docs/EXPLORE.md, "Output"). When stmdesk_feed has given explored->length bytes, fed->waiting is how many they have.
+*/
+uint32_t stmdesk_explore_with_diagnostics(const uint8_t *script, size_t script_length, const stmdesk_explore_options *options,
+                                          stmdesk *text, stmdesk_explored *explored);
 
 #ifdef __cplusplus
 }

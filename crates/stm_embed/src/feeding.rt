@@ -4,7 +4,7 @@ ghost use Rattle.std.specs.Prelude.{◌≡◌, ◌≢◌, ◌<◌, ◌≤◌, �
 ghost use Rattle.stm_lines.specs.Lines.{drop_return, whole_lines_of, NoLineFeed};
 ghost use Rattle.stm_run.specs.Console.{answer_to, answers_to, initial_console, state_after};
 ghost use Rattle.stm_run.specs.AfterLines.{state_after_lines};
-ghost use Rattle.stm_embed.specs.Exploring.{IsExplored};
+ghost use Rattle.stm_embed.specs.Exploring.{AreDiagnosticsOf, IsExplored, diagnosed_text};
 ghost use Rattle.stm_embed.specs.Feeding.{console_of, unread_answers};
 ghost use Rattle.stm_embed.specs.Status.{all_taken, part_of_line, no_memory, taken_status};
 
@@ -173,22 +173,29 @@ impl Embedded {
         self.answers.extend_from_slice(text)
     }
 
-    /// Explores a script, and keeps what is written of it after the answers that wait to be given. Returns how many bytes that are.
+    /// Explores a script, and keeps what is written of it after the answers that wait to be given, with the diagnostics or without them.
+    /// Returns how the exploration ended, and how many bytes come before the diagnostics.
     pub fn explore(
         &mut self,
         alloc: Global,
         script: &[u8],
         options: ExploreOptions,
+        diagnosed: bool,
     ) -> Result<(Ended, usize), NoMemory>
-        ensures done { IfOk result (λ r. (text : List ℕ) × IsExplored script.now options r.0 text
-            × (unread_answers self.new ≡ unread_answers self.old ++ text) × (r.1 ≡ length text)) }
+        ensures done { IfOk result (λ r. (found : List ℕ) × (diagnostics : List ℕ)
+            × IsExplored script.now options r.0 found × AreDiagnosticsOf script.now options r.0 diagnostics
+            × (unread_answers self.new ≡ unread_answers self.old ++ diagnosed_text diagnosed found diagnostics)
+            × (r.1 ≡ length found)) }
         ensures same { OnErr result (unread_answers self.new ≡ unread_answers self.old) }
         ensures console { console_of self.new ≡ console_of self.old }
     {
         let mut text = Vec::new(alloc);
-        let ended = explore_script(alloc, script, options, &mut text)?;
+        let (ended, length) = explore_script(alloc, script, options, &mut text)?;
+        if !diagnosed {
+            text.truncate(length);
+        }
         self.keep(&text)?;
-        Ok((ended, text.len()))
+        Ok((ended, length))
     }
 
     /// Answers the whole lines among some bytes, one after another. The answers wait to be given.

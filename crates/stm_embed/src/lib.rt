@@ -1,7 +1,7 @@
 //! The console in the process of a program that isn't Rattle's, as functions for C.
 //!
-//! `stmdesk_new`, `stmdesk_new_seeded`, `stmdesk_feed` and `stmdesk_free` are those of a desk. `stmdesk_check` judges a history and
-//! `stmdesk_explore` explores a script without one, and `stmdesk_version` has the version. docs/EMBEDDING.md says how they are called, and
+//! `stmdesk_new`, `stmdesk_new_seeded`, `stmdesk_feed` and `stmdesk_free` are those of a desk. `stmdesk_check` judges a history,
+//! `stmdesk_explore` and `stmdesk_explore_with_diagnostics` explore a script without one, and `stmdesk_version` has the version. docs/EMBEDDING.md says how they are called, and
 //! include/stmdesk.h declares them.
 //!
 //! `feeding` has the console with the answers that were not fetched, and `handle` the pointer by which C holds it. `checking` has the
@@ -9,7 +9,7 @@
 //! thread is started: a static library may start none.
 //!
 //! What a reader has to believe is in specs/: `Feeding` has what a call did, in the words of `stm_run/specs/Console`, `Checking` what a
-//! check found, and `Exploring` how an exploration ended.
+//! check found, and `Exploring` how an exploration ended and what is said of it.
 #![tactic(auto)]
 
 mod checking;
@@ -26,7 +26,7 @@ ghost use Rattle.stm_run.specs.Console.{answers_to};
 ghost use Rattle.stm_run.specs.AfterLines.{state_after_lines};
 ghost use Rattle.stm_command_line.specs.declared.version.TheConstants.{VERSION};
 ghost use Rattle.stm_embed.specs.Checking.{IsJudgement, found_status, numbers_of};
-ghost use Rattle.stm_embed.specs.Exploring.{IsExplored, ended_status, explore_options, invalid_line};
+ghost use Rattle.stm_embed.specs.Exploring.{AreDiagnosticsOf, IsExplored, diagnosed_text, ended_status, explore_options, invalid_line};
 ghost use Rattle.stm_embed.specs.Feeding.{HasOnly, IsNew, console_of, unread_answers};
 ghost use Rattle.stm_embed.specs.Status.{all_taken, part_of_line, no_memory, taken_status};
 ghost use Rattle.stm_embed.specs.declared.checking.Found.{Found as AnyFound};
@@ -137,22 +137,56 @@ pub extern "C" fn stmdesk_feed(
     done.status(lines)
 }
 
-/// Explores a script, and puts a console into the room whose answers that wait are what is written of it. Returns how the exploration
-/// ended, and how many bytes are written.
+/// Explores a script, and puts a console into the room whose answers that wait are what is written of it, with the diagnostics or without
+/// them. Returns how the exploration ended, and how many bytes come before the diagnostics.
 fn explore(
     alloc: Global,
     script: &[u8],
     options: ExploreOptions,
+    diagnosed: bool,
     text: &mut Room,
 ) -> Result<(Ended, usize), NoMemory>
-    ensures done { IfOk result (λ r. (bytes : List ℕ) × IsExplored script.now options r.0 bytes
-        × (r.1 ≡ length bytes) × IsSomeAnd text.new.embedded (λ e. HasOnly bytes e)) }
+    ensures done { IfOk result (λ r. (found : List ℕ) × (diagnostics : List ℕ)
+        × IsExplored script.now options r.0 found × AreDiagnosticsOf script.now options r.0 diagnostics
+        × (r.1 ≡ length found)
+        × IsSomeAnd text.new.embedded (λ e. HasOnly (diagnosed_text diagnosed found diagnostics) e)) }
     ensures same { OnErr result (text.new ≡ text.old) }
 {
     let mut answer = Embedded::new(alloc, Seed::fixed(), EventLimit::new(0));
-    let (ended, length) = answer.explore(alloc, script, options)?;
+    let (ended, length) = answer.explore(alloc, script, options, diagnosed)?;
     *text = Room::of(Box::new(alloc, answer)?);
     Ok((ended, length))
+}
+
+/// Does the same, writes how many bytes come before the diagnostics and which line is invalid, and returns the status.
+fn explore_for_c(
+    alloc: Global,
+    script: &[u8],
+    options: &Wanted,
+    diagnosed: bool,
+    text: &mut Room,
+    explored: &mut Explored,
+) -> u32
+    ensures found { result ≢ no_memory → (e : AnyEnded) × (found : List ℕ) × (diagnostics : List ℕ)
+        × IsExplored script.now (explore_options options.now) e found
+        × AreDiagnosticsOf script.now (explore_options options.now) e diagnostics
+        × (result ≡ ended_status e) × (explored.new.line ≡ invalid_line e) × (explored.new.length ≡ length found)
+        × IsSomeAnd text.new.embedded (λ d. HasOnly (diagnosed_text diagnosed found diagnostics) d) }
+    ensures memory { result ≡ no_memory → (text.new ≡ text.old)
+        × (explored.new.line ≡ 0) × (explored.new.length ≡ 0) }
+{
+    match explore(alloc, script, options.options(), diagnosed, text) {
+        Ok((ended, length)) => {
+            explored.length = length;
+            explored.line = ended.line();
+            ended.status()
+        }
+        Err(_) => {
+            explored.length = 0;
+            explored.line = 0;
+            NO_MEMORY
+        }
+    }
 }
 
 /// Explores every order of the steps of a script's clients; writes a pointer to a console that has no variables, takes no event, and has
@@ -174,18 +208,30 @@ pub extern "C" fn stmdesk_explore(
     ensures memory { result ≡ no_memory → (text.new ≡ text.old)
         × (explored.new.line ≡ 0) × (explored.new.length ≡ 0) }
 {
-    match explore(alloc, script, options.options(), text) {
-        Ok((ended, length)) => {
-            explored.length = length;
-            explored.line = ended.line();
-            ended.status()
-        }
-        Err(_) => {
-            explored.length = 0;
-            explored.line = 0;
-            NO_MEMORY
-        }
-    }
+    explore_for_c(alloc, script, options, false, text, explored)
+}
+
+/// Does what `stmdesk_explore` does; and after what is written of the exploration come its diagnostics, the lines that the program writes
+/// on standard error: what may be a mistake in a script that is right, why a script is invalid, or why no history is written.
+#[unsafe(no_mangle)]
+pub extern "C" fn stmdesk_explore_with_diagnostics(
+    alloc: Global,
+    script: &[u8],
+    options: &Wanted,
+    text: &mut Room,
+    explored: &mut Explored,
+) -> u32
+    // What the status and the line say was found of the script, and the text is what is written of that, and then the diagnostics.
+    ensures found { result ≢ no_memory → (e : AnyEnded) × (bytes : List ℕ) × (diagnostics : List ℕ)
+        × IsExplored script.now (explore_options options.now) e bytes
+        × AreDiagnosticsOf script.now (explore_options options.now) e diagnostics
+        × (result ≡ ended_status e) × (explored.new.line ≡ invalid_line e) × (explored.new.length ≡ length bytes)
+        × IsSomeAnd text.new.embedded (λ d. HasOnly (bytes ++ diagnostics) d) }
+    // If memory ran out, the variable for the text is as it was.
+    ensures memory { result ≡ no_memory → (text.new ≡ text.old)
+        × (explored.new.line ≡ 0) × (explored.new.length ≡ 0) }
+{
+    explore_for_c(alloc, script, options, true, text, explored)
 }
 
 /// Judges the bytes of a history, and writes its numbers, or the line of its first fault. Names of variables are looked up under the
