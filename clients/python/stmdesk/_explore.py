@@ -209,8 +209,8 @@ def explore(
     script is invalid, and `Ended` if the program ends otherwise, for example since it is out of memory.
 
     With `local` no program is run: the script is explored in this process, by the library `libstmdesk.so` at the path `library`, or else by
-    what `find_library` returns. Raises OSError if the library can't be loaded, and `OutOfMemory`. The library tells no warnings and
-    no reason of a refusal. An exception of a signal handler then comes after the exploration.
+    what `find_library` returns. Raises OSError if the library can't be loaded, and `OutOfMemory`. A library up to version 0.25.0 reports
+    no warnings, and of an invalid line only its number. An exception of a signal handler then comes after the exploration.
 
     >>> found = explore('''
     ...     tvar a : Int = 100

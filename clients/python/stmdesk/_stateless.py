@@ -4,6 +4,7 @@ from __future__ import annotations
 
 import ctypes
 import os
+from contextlib import suppress
 from functools import lru_cache
 from typing import Any, NamedTuple
 
@@ -37,7 +38,7 @@ class _Functions(NamedTuple):
     """Functions of include/stmdesk.h. Python's other threads go on during a call."""
 
     check: Any
-    explore: Any
+    explore: Any  # with diagnostics, if the library has them
     feed: Any
     free: Any
 
@@ -48,6 +49,8 @@ def _load(path: str) -> _Functions:
     loaded, address, text, size = ctypes.CDLL(path), ctypes.c_void_p, ctypes.c_char_p, ctypes.c_size_t
     try:
         functions = _Functions(loaded.stmdesk_check, loaded.stmdesk_explore, loaded.stmdesk_feed, loaded.stmdesk_free)
+        with suppress(AttributeError):  # a library up to 0.25.0 has no diagnostics
+            functions = functions._replace(explore=loaded.stmdesk_explore_with_diagnostics)
     except AttributeError as error:
         raise OSError(f"{path} is no library of stmdesk that checks and explores: {error}") from None
     functions.check.argtypes, functions.check.restype = [text, size, address, address], ctypes.c_uint32
@@ -94,13 +97,19 @@ def explore_once(
     if status == NO_MEMORY:
         raise OutOfMemory("an exploration")
     try:
-        out, fed = ctypes.create_string_buffer(explored.length + 1), _Fed()
-        functions.feed(ctypes.byref(text), b"", 0, out, explored.length, ctypes.byref(fed))
+        printed, waiting = _front(functions, text, explored.length)
+        said, _ = _front(functions, text, waiting)
     finally:
         functions.free(text)
-    if status == BAD_SCRIPT:
-        return 1, "", f"stmdesk: script line {explored.line}"
-    if status not in (RIGHT, FAULTY, INCOMPLETE, NO_ROOM):
+    if status not in (RIGHT, FAULTY, INCOMPLETE, BAD_SCRIPT, NO_ROOM):
         raise BadAnswer("explore", f"status {status}")
-    said = "the fault has no history" if status == NO_ROOM else ""
-    return 0 if status == RIGHT else 3, out.raw[: fed.given].decode("ascii", "replace"), said
+    if not said:  # by a library without diagnostics
+        said = {BAD_SCRIPT: f"stmdesk: script line {explored.line}", NO_ROOM: "stmdesk: the fault has no history"}.get(status, "")
+    return {RIGHT: 0, BAD_SCRIPT: 1}.get(status, 3), printed, said.strip()
+
+
+def _front(functions: _Functions, text: _Handle, count: int) -> tuple[str, int]:
+    """Takes this many bytes from a text. Returns them, and how many more there are."""
+    out, fed = ctypes.create_string_buffer(count + 1), _Fed()
+    functions.feed(ctypes.byref(text), b"", 0, out, count, ctypes.byref(fed))
+    return out.raw[: fed.given].decode("ascii", "replace"), fed.waiting

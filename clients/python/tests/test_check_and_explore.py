@@ -1,6 +1,7 @@
 """`check` and `explore`."""
 
 import concurrent.futures
+import ctypes
 import pathlib
 import pickle
 import signal
@@ -8,6 +9,7 @@ import subprocess
 import tempfile
 import time
 from functools import partial
+from types import SimpleNamespace
 from unittest import mock
 
 from stmdesk import (
@@ -192,7 +194,6 @@ class Explorations(OnProgram):
         self.assert_found(self.explore(script % 1, max_states=1), 1, 0, 0, "incomplete")
         self.assertIsNone(self.explore(script % 0).client)
 
-    @needs_process("warnings")
     def test_warnings(self):
         submit = "submit do { a <- readTVar x; writeTVar x (a + 1) }\n"
         invariants = "always do { a <- readTVar x; return (a < 9) }\nnever do { b <- readTVar y; if b == 1 then return () else retry }\n"
@@ -314,7 +315,6 @@ class Explorations(OnProgram):
         with mock.patch.object(_stateless, "_load", lambda path: functions._replace(explore=explored)), self.assertRaises(BadAnswer):
             found.trace()
 
-    @needs_process("the reason of a refusal")
     def test_a_refused_line(self):
         scripts = {
             "tvar x : Int = 0\r\n\n  client  \n\tsubmit return a + 1 \r\n": (4, "submit return a + 1", "Unexpected", 9),
@@ -332,7 +332,6 @@ class Explorations(OnProgram):
             self.assertIn(f"line {wanted[0]}", str(refused))
             self.assertIn(wanted[1], str(refused))
 
-    @needs_process("the reason of a refusal")
     def test_why_a_line_is_refused(self):
         x = "tvar x : Int = 0\ntvar ready : Bool = False\n"
         refusals = {
@@ -507,17 +506,37 @@ class Explorations(OnProgram):
                 with self.assertRaisesRegex(BadAnswer, "status 99"):
                     call()
 
+    def older_library(self):
+        """The functions of the library, as of one up to version 0.25.0, which has no diagnostics."""
+        functions, loaded = _stateless._load(library), ctypes.CDLL(library)
+        names = ("stmdesk_check", "stmdesk_explore", "stmdesk_feed", "stmdesk_free")
+        older = SimpleNamespace(**{name: getattr(loaded, name) for name in names})
+        with mock.patch.object(ctypes, "CDLL", lambda path: older):
+            older = _stateless._load.__wrapped__(library)
+        self.assertIsNot(older.explore, functions.explore)
+        return older
+
+    @needs_library
+    def test_a_library_without_diagnostics(self):
+        idle = "client\nsubmit retry\n"
+        self.assert_is(len(self.explore(idle).warnings), 1)
+        older = self.older_library()
+        with mock.patch.object(_stateless, "_load", lambda path: older):
+            self.assert_is((self.explore(idle).warnings, str(self.explore(idle))), ([], "states 1 steps 0\nended 1\ncells 0\nright"))
+            with self.assertRaises(ScriptRefused) as caught:
+                self.explore("client\nfrob")
+        self.assertEqual((caught.exception.line, caught.exception.reason), (2, ""))
+
     @needs_library
     def test_no_room_for_a_history(self):
-        found = self.explore(LOST)
-        functions = _stateless._load(library)
+        found, older = self.explore(LOST), self.older_library()
 
         def explored(*given):
-            self.assertEqual(functions.explore(b"client", 6, *given[2:]), 0)  # right, and so with no history
+            self.assertEqual(older.explore(b"client", 6, *given[2:]), 0)  # right, and so with no history
             return 9
 
-        with mock.patch.object(_stateless, "_load", lambda path: functions._replace(explore=explored)):
-            with self.assertRaisesRegex(Ended, "status 3: the fault has no history"):
+        with mock.patch.object(_stateless, "_load", lambda path: older._replace(explore=explored)):
+            with self.assertRaisesRegex(Ended, "status 3: stmdesk: the fault has no history"):
                 found.history()
 
     @needs_library
