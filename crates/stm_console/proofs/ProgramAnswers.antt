@@ -1,6 +1,6 @@
 -- That the program does what its definition says.
 use Rattle.std.proofs.Common.{◌≡◌, ℕ, Bool, true, false, cond, List, [], ◌∷◌, inl, inr, refl, sym, subst, Option, Some, None}
-use Rattle.std.specs.Prelude.{◌⊎◌, IfSome, Result, Err}
+use Rattle.std.specs.Prelude.{◌⊎◌, IfSome, Err}
 use Rattle.std.specs.Io.KnownBytes.{Appends, Keeps}
 use Rattle.std.proofs.KnownBytes.{Appends-kept, Appends-nil}
 use Rattle.clap.specs.Words.{Kinds, HasKind}
@@ -13,6 +13,7 @@ use Rattle.stm_lines.specs.declared.run_fault.RunFault.TheVariants as run_fault
 use Rattle.stm_run.specs.Console.{console_text}
 use Rattle.stm_storm.specs.declared.storming.StormFault.{StormFault}
 use Rattle.stm_storm.specs.declared.storming.StormFault.TheVariants as storm_fault
+use Rattle.stm_storm.specs.StormText.{IsFailedStormText, WritesStorm}
 use Rattle.stm_explore_script.specs.ExploreStatus.{explore_status, is_finding}
 use Rattle.stm_explore_script.specs.declared.exploring.ExploreFault.{ExploreFault}
 use Rattle.stm_explore_script.specs.declared.exploring.ExploreFault.TheVariants as explore_fault
@@ -36,11 +37,11 @@ failure run_fault.NoMemory = inr refl
 pub failed : (e : RunFault) (n : ℕ) → n ≡ status_of e → IsFailure n
 failed e n is = subst IsFailure (sym is) (failure e)
 
-pub storm_ends : (A P : Type 0) (r : Result (Unit {0}) StormFault) (e : StormFault) (n : ℕ) → r ≡ Err e → n ≡ storm_status e
-    → (r ≡ Err storm_fault.Replay → P) → A ⊎ (((n ≡ NOT_RIGHT) × P) ⊎ IsFailure n)
-storm_ends A P r (storm_fault.Run fault) n is s replay = inr (inr (failed fault n s))
-storm_ends A P r (storm_fault.Script fault) n is s replay = inr (inr (inl s))
-storm_ends A P r storm_fault.Replay n is s replay = inr (inl (s, replay is))
+pub storm_ends : (A : Type 0) (input old new : Option (List ℕ)) (e : StormFault) (n : ℕ) → n ≡ storm_status e → WritesStorm input old new (Err e)
+    → A ⊎ (((n ≡ NOT_RIGHT) × IfSome input (λ i. (text : List ℕ) × IsFailedStormText i text × Appends old new text)) ⊎ IsFailure n)
+storm_ends A input old new (storm_fault.Run fault) n s wrote = inr (inr (failed fault n s))
+storm_ends A input old new (storm_fault.Script fault) n s wrote = inr (inr (inl s))
+storm_ends A input old new storm_fault.Replay n s wrote = inr (inl (s, wrote))
 
 pub exploration_ends : (A P : Type 0) (e : ExploreFault) (n : ℕ) → n ≡ explore_status e → (is_finding e ≡ true → P)
     → A ⊎ (((n ≡ NOT_RIGHT) × P) ⊎ IsFailure n)

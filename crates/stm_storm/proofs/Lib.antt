@@ -1,3 +1,4 @@
 pub mod ClientLines
 pub mod FailedReplays
 pub mod LegalStorms
+pub mod WrittenStorms

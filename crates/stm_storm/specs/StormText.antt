@@ -1,9 +1,12 @@
 -- What a storm writes.
-use Rattle.std.specs.Prelude.{◌≡◌, ℕ, ◌+◌, List, [], ◌∷◌, ◌++◌, Option, Some, None, Ok, IfSome, codes, decimal, length}
+use Rattle.std.specs.Prelude.{⊤, ◌≡◌, ℕ, ◌+◌, List, [], ◌∷◌, ◌++◌, Option, Some, None, Result, Ok, Err, IfSome, codes, decimal, length}
+use Rattle.std.specs.Io.KnownBytes.{Appends, Keeps}
 use Rattle.stm_events.specs.declared.event.Event.{Event}
 use Rattle.stm_pool.specs.declared.storm.Counts.{Counts}
 use Rattle.stm_storm.specs.StormHistory.{IsIllegalStormHistory, IsStormHistory}
 use Rattle.stm_script.specs.StormScript.{StormScript, storm_script}
+use Rattle.stm_storm.specs.declared.storming.StormFault.{StormFault}
+use Rattle.stm_storm.specs.declared.storming.StormFault.TheVariants.{Replay, Run, Script}
 
 -- the line of a client
 unfoldable pub client_line : ℕ → Counts → List ℕ
@@ -58,3 +61,16 @@ pub record IsFailedStormText (input text : List ℕ) : Type 0 where
   pub events : Option ℕ
   pub illegal : IfSome events (λ n. (history : List Event) × IsIllegalStormHistory script.table counts n history)
   pub written : text ≡ failed_text counts events
+
+-- What `storm` wrote, by its result. `input` are the bytes that the reader had left, `old` and `new` those that the writer had before and has
+-- after the call, if they are known.
+abbrev pub WritesStorm : Option (List ℕ) → Option (List ℕ) → Option (List ℕ) → Result (Unit {0}) StormFault → Type 0
+-- the script is right, and a text of it was written
+WritesStorm input old new (Ok done) = IfSome input (λ i. (text : List ℕ) × IsStormText i text × Appends old new text)
+-- the script is right, and a text of it was written that ends with `replay failed`: its desk couldn't be closed, or left a history that isn't
+-- legal
+WritesStorm input old new (Err Replay) = IfSome input (λ i. (text : List ℕ) × IsFailedStormText i text × Appends old new text)
+-- this is the first invalid line of the script, and why it is invalid; nothing was written
+WritesStorm input old new (Err (Script fault)) = IfSome input (λ i. storm_script i ≡ Err fault) × Keeps old new
+-- reader, writer or memory failed; what was written isn't said
+WritesStorm input old new (Err (Run fault)) = ⊤

@@ -1,0 +1,30 @@
+-- What a storm wrote, put together by its result.
+use Rattle.std.proofs.Common.{◌≡◌, ℕ, List, Ok, Err, Option, refl}
+use Rattle.std.proofs.lemmas.Option.{IfSome_then}
+use Rattle.std.specs.Prelude.{IfSome, OnOk, Result}
+use Rattle.std.specs.Io.KnownBytes.{Appends, Keeps}
+use Rattle.stm_script.specs.declared.script_fault.ScriptFault.{ScriptFault}
+use Rattle.stm_script.specs.StormScript.{StormScript, storm_script}
+use Rattle.stm_storm.specs.declared.storming.StormFault.{StormFault}
+use Rattle.stm_storm.specs.declared.storming.StormFault.TheVariants as storm_fault
+use Rattle.stm_storm.specs.StormText.{IsFailedStormText, IsStormText, WritesStorm}
+
+-- the script was read
+pub writes_storm : (input old new : Option (List ℕ)) (s : StormScript) (r : Result (Unit {0}) StormFault)
+    → IfSome input (λ i. storm_script i ≡ Ok s)
+    → OnOk r ((i : List ℕ) → storm_script i ≡ Ok s → (text : List ℕ) × IsStormText i text × Appends old new text)
+    → (r ≡ Err storm_fault.Replay → (i : List ℕ) → storm_script i ≡ Ok s → (text : List ℕ) × IsFailedStormText i text × Appends old new text)
+    → ((f : ScriptFault) → r ≡ Err (storm_fault.Script f) → ⊥)
+    → WritesStorm input old new r
+writes_storm input old new s (Ok done) read right failed unread = IfSome_then input read (λ i is. right i is)
+writes_storm input old new s (Err storm_fault.Replay) read right failed unread = IfSome_then input read (λ i is. failed refl i is)
+writes_storm input old new s (Err (storm_fault.Script f)) read right failed unread = absurd (unread f refl)
+writes_storm input old new s (Err (storm_fault.Run f)) read right failed unread = tt
+
+-- it wasn't, and nothing was written
+pub unread_storm : (input old new : Option (List ℕ)) (e : StormFault) → Keeps old new
+    → ((f : ScriptFault) → e ≡ storm_fault.Script f → IfSome input (λ i. storm_script i ≡ Err f)) → (e ≡ storm_fault.Replay → ⊥)
+    → WritesStorm input old new (Err e)
+unread_storm input old new storm_fault.Replay keeps script ran = absurd (ran refl)
+unread_storm input old new (storm_fault.Script f) keeps script ran = (script f refl, keeps)
+unread_storm input old new (storm_fault.Run f) keeps script ran = tt
