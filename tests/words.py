@@ -72,7 +72,7 @@ REFUSED = [
     *(["run", *rest] for rest in (["--journal"], ["--journal="], ["--journal", ""], ["--journal", "a", "--journal", "a"], ["--journal", b"\xff"])),
     *(["run", *rest] for rest in (["--sync"], ["--sync", "full"], ["--sync=none"], ["--journal", "a", "--sync"], ["--", "--journal", "a"])),
     *(["run", "--journal", "a", "--sync", mode] for mode in ("", "Full", "full ", "never", "0")),
-    *(["run", "--journal", "a", "--sync", mode, "--sync", mode] for mode in ("full", "append", "none")),
+    *(["run", "--journal", "a", "--sync", mode, "--sync", mode] for mode in ("full", "sector", "append", "none")),
     *([*word, *rest] for word in ([], ["storm"], ["explore"], ["check"]) for rest in (["--journal", "a"], ["--journal=a"], ["--sync", "full"], ["--checkpoint-every", "9"])),
     *(["storm", *rest] for rest in (["--journal", "a", "--sync", "full"], ["--sync"], ["--journal"], ["--checkpoint-every"])),
     *(["run", *rest] for rest in (["--checkpoint-every", "9"], ["--checkpoint-every=9"], ["--journal", "a", "--checkpoint-every"])),

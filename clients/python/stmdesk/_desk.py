@@ -30,7 +30,7 @@ PATIENCE = 5.0  # seconds that the program has to end after its input has ended
 FEW = 8  # commands that are sent in one go whatever their length
 ASKED = 4096  # blocks of which `board` asks a server in one request
 
-Sync = Literal["full", "append", "none"]
+Sync = Literal["full", "sector", "append", "none"]
 
 _DROPPED = re.compile(r"(?m): dropped (\d+) bytes after the last whole line$")
 

@@ -46,7 +46,7 @@ def parser() -> argparse.ArgumentParser:
     add("--program", metavar="PATH", help="the program stmdesk; else the one that the package finds")
     add("--declare", metavar="FILE", help="lines `tvar NAME : TYPE = INIT`, for a desk that is new")
     add("--journal", metavar="FILE", help="keep the desk in FILE, and go on from it")
-    add("--sync", choices=("full", "append", "none"), help="what is synced before an answer (default full)")
+    add("--sync", choices=("full", "sector", "append", "none"), help="what is synced before an answer (default full)")
     add("--checkpoint-every", metavar="N", type=_number, help=f"events after which a checkpoint is made (default {CHECKPOINT})")
     add("--keep", action="store_true", help="blocks of `submit` go on waiting when their connection ends")
     add("--grace", metavar="SECONDS", type=float, default=10.0, help="how long a session waits for a new connection (default 10)")

@@ -47,7 +47,7 @@ class Journals(InThreads):
         self.assertEqual((caught.exception.status, str(caught.exception)), (status, f"{self.path}: {message}"))
 
     def test_it_goes_on(self):
-        for number, sync in enumerate((None, "full", "append", "none")):
+        for number, sync in enumerate((None, "full", "sector", "append", "none")):
             self.path = self.path.with_name(f"{sync}")
             with self.open(sync=sync) as desk:
                 self.assert_is((desk.is_resumed, desk.dropped), (False, 0))
@@ -490,7 +490,7 @@ class Journals(InThreads):
             desk.tvar("x : Int = 0")
             desk.store()
         for number in range(count + 1):
-            with self.open(sync=chance.choice(("full", "append", "none"))) as desk:
+            with self.open(sync=chance.choice(("full", "sector", "append", "none"))) as desk:
                 found = desk.events()
                 self.assertEqual(found[: len(events)], events)
                 self.assertEqual(self.explained(given, found[len(events) :]), [])

@@ -16,7 +16,7 @@ use Rattle.stm_command_line.specs.CommandLine.{answers_of, are_mistakes, command
 use Rattle.stm_command_line.specs.WordLaws.{IsTakenOn, JournalsAreTaken, EmptyNamesAreRefused, ModesAreTaken, OtherModesAreRefused, ModesNeedJournals, run_synced}
 use Rattle.stm_command_line.specs.declared.command_line.Request.TheVariants.{RunOn}
 use Rattle.stm_journal.specs.declared.sync_mode.SyncMode.{SyncMode}
-use Rattle.stm_journal.specs.declared.sync_mode.SyncMode.TheVariants.{Full, Append, Never}
+use Rattle.stm_journal.specs.declared.sync_mode.SyncMode.TheVariants.{Full, Sector, Append, Never}
 use Rattle.stm_options.specs.declared.options.Options.{Options}
 use Rattle.stm_options.specs.Options.{default_options}
 use Rattle.stm_command_line.proofs.StormWords.{above_passed, both_taken, enters_run, entered_words, first_turn, first_wrong, journal, last_turn, level_mistaken, level_passed, program, rows, run_answers, run_said, run_shape, run_kinds, second_turn, second_walk, sync, every, kinds_after, kinds_of_run}
@@ -223,6 +223,10 @@ full_asked : (name file : List ℕ) → request_of (run_synced name file (codes 
 unfolding request_of clap_on_literals
 full_asked name file = refl
 
+sector_asked : (name file : List ℕ) → request_of (run_synced name file (codes "sector")) ≡ RunOn default_options Sector file
+unfolding request_of clap_on_literals
+sector_asked name file = refl
+
 append_asked : (name file : List ℕ) → request_of (run_synced name file (codes "append")) ≡ RunOn default_options Append file
 unfolding request_of clap_on_literals
 append_asked name file = refl
@@ -238,6 +242,7 @@ synced_taken name first rest mode none =
 pub modes_are_taken : ModesAreTaken
 modes_are_taken name first rest = (
   (synced_taken name first rest (codes "full") refl, full_asked name (first ∷ rest)),
+  (synced_taken name first rest (codes "sector") refl, sector_asked name (first ∷ rest)),
   (synced_taken name first rest (codes "append") refl, append_asked name (first ∷ rest)),
   (synced_taken name first rest (codes "none") refl, none_asked name (first ∷ rest)),
 )
@@ -250,8 +255,9 @@ other word mode differs = go (bytes_eq word mode) refl
     go false is = is
     go true is = absurd (differs ((bytes_eq-Decides word mode).0 is))
 
-no_mode : (mode : List ℕ) → mode ≢ codes "full" → mode ≢ codes "append" → mode ≢ codes "none" → mode_of mode ≡ None
-no_mode mode full append none = rw (other mode (codes "full") full, other mode (codes "append") append, other mode (codes "none") none) refl
+no_mode : (mode : List ℕ) → mode ≢ codes "full" → mode ≢ codes "sector" → mode ≢ codes "append" → mode ≢ codes "none" → mode_of mode ≡ None
+no_mode mode full sector append none =
+    rw (other mode (codes "full") full, other mode (codes "sector") sector, other mode (codes "append") append, other mode (codes "none") none) refl
 
 mode_refused : (o : Option SyncMode) (has_journal : Bool) → o ≡ None
     → are_mistakes (cond (not (is_some o)) (InvalidValue ∷ []) (cond (not has_journal) (MissingRequiredArgument ∷ []) [])) ≡ true
@@ -263,13 +269,13 @@ synced_unnamed name file mode h =
     (first_wrong (codes "--journal=" ++ file) (codes "--sync=" ++ mode) (synced_wrong file h))
 
 pub other_modes_are_refused : OtherModesAreRefused
-other_modes_are_refused name file mode full append none = go (nat_lt 0 (length file)) refl
+other_modes_are_refused name file mode full sector append none = go (nat_lt 0 (length file)) refl
   where
     go : (b : Bool) → nat_lt 0 (length file) ≡ b → are_mistakes (answers_of (run_synced name file mode)) ≡ true
     go false is = mistaken_words (run_synced name file mode) (synced_unnamed name file mode is)
     go true is =
         ap are_mistakes (request_kinds (run_synced name file mode) (sync_fault (Some mode) true) (synced_passed name file mode is) (synced_faulted name file mode))
-        ∙ mode_refused (mode_of mode) true (no_mode mode full append none)
+        ∙ mode_refused (mode_of mode) true (no_mode mode full sector append none)
 
 -- ---- a mode alone
 

@@ -15,7 +15,7 @@ use Rattle.stm_terms.specs.Limits.{max_levels, max_events, max_workers}
 use Rattle.stm_command_line.specs.declared.command_line.Request.{Request}
 use Rattle.stm_command_line.specs.declared.command_line.Request.TheVariants.{Run, RunOn, Storm, Explore, Check, CheckWhy}
 use Rattle.stm_journal.specs.declared.sync_mode.SyncMode.{SyncMode}
-use Rattle.stm_journal.specs.declared.sync_mode.SyncMode.TheVariants.{Full, Append, Never}
+use Rattle.stm_journal.specs.declared.sync_mode.SyncMode.TheVariants.{Full, Sector, Append, Never}
 use Rattle.stm_options.specs.declared.explore_options.ExploreOptions.{ExploreOptions}
 use Rattle.stm_options.specs.declared.options.Options.{Options}
 use Rattle.stm_command_line.specs.declared.version.TheConstants.{VERSION}
@@ -113,6 +113,7 @@ command_line = with_subcommand (with_subcommand (with_subcommand (with_subcomman
 abbrev pub mode_of : List ℕ → Option SyncMode
 mode_of word =
     if bytes_eq word (codes "full") then Some Full
+    else if bytes_eq word (codes "sector") then Some Sector
     else if bytes_eq word (codes "append") then Some Append
     else if bytes_eq word (codes "none") then Some Never
     else None

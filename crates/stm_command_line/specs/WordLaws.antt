@@ -3,7 +3,7 @@ use Rattle.std.specs.Prelude.{◌≡◌, ◌≢◌, ◌≤◌, ◌<◌, ◌^◌,
 use Rattle.stm_terms.specs.Limits as limits
 use Rattle.stm_command_line.specs.declared.command_line.Request.TheVariants.{Run, RunOn, Storm, Check, CheckWhy}
 use Rattle.stm_journal.specs.declared.sync_mode.SyncMode.{SyncMode}
-use Rattle.stm_journal.specs.declared.sync_mode.SyncMode.TheVariants.{Full, Append, Never}
+use Rattle.stm_journal.specs.declared.sync_mode.SyncMode.TheVariants.{Full, Sector, Append, Never}
 use Rattle.stm_options.specs.declared.options.Options.{Options}
 use Rattle.stm_command_line.specs.CommandLine.{answers_of, asks_for_help, asks_for_run, asks_for_version, has_mistake, request_of, HasOptionsInRange}
 use Rattle.stm_options.specs.Options.{default_options}
@@ -133,17 +133,18 @@ EmptyNamesAreRefused = (name : List ℕ)
 abbrev pub run_synced : List ℕ → List ℕ → List ℕ → List (List ℕ)
 run_synced name file mode = name ∷ codes "run" ∷ (codes "--journal=" ++ file) ∷ (codes "--sync=" ++ mode) ∷ []
 
--- the three modes are taken
+-- the four modes are taken
 abbrev pub ModesAreTaken : Type 0
 ModesAreTaken = (name : List ℕ) (first : ℕ) (rest : List ℕ)
     → IsTakenOn (run_synced name (first ∷ rest) (codes "full")) Full (first ∷ rest)
+    × IsTakenOn (run_synced name (first ∷ rest) (codes "sector")) Sector (first ∷ rest)
     × IsTakenOn (run_synced name (first ∷ rest) (codes "append")) Append (first ∷ rest)
     × IsTakenOn (run_synced name (first ∷ rest) (codes "none")) Never (first ∷ rest)
 
 -- any other is refused
 abbrev pub OtherModesAreRefused : Type 0
 OtherModesAreRefused = (name file mode : List ℕ)
-    → mode ≢ codes "full" → mode ≢ codes "append" → mode ≢ codes "none" → IsTrue (has_mistake (run_synced name file mode))
+    → mode ≢ codes "full" → mode ≢ codes "sector" → mode ≢ codes "append" → mode ≢ codes "none" → IsTrue (has_mistake (run_synced name file mode))
 
 -- and so is a mode without a journal
 abbrev pub ModesNeedJournals : Type 0

@@ -132,6 +132,7 @@ With `--journal` the history is kept in a file, and the next run with this file 
 its events are in the file and, as `--sync` says, on the disk:
       stmdesk run --journal desk.history
   full    Three syncs a batch of answers: a crash leaves each batch of events whole or not at all
+  sector  Two syncs a batch, for the same, if the disk has zeros after the end of a file in its last 512 bytes
   append  One sync a batch: a crash leaves all events that were answered, and of the next batch perhaps some
   none    No sync: a crash of the program loses no event that was answered, but a crash of the system may lose any
 When the history has 500000 events, or as many as `--checkpoint-every` says, a checkpoint is made: the history in the file begins
@@ -246,7 +247,7 @@ const PROGRESS: &str = "Asks from every state whether each client can still do i
 const JOURNAL: &str = "Keeps the history in FILE, and goes on from what is in it";
 
 const SYNC: &str =
-    "What is synced before an answer is written: full, append or none [default: full]";
+    "What is synced before an answer is written: full, sector, append or none [default: full]";
 
 const CHECKPOINT_EVERY: &str =
     "Makes a checkpoint when the history has N events, from 1 to 1048576 [default: 500000]";
@@ -611,6 +612,9 @@ fn mode_of(word: &str) -> Option<SyncMode>
     if word == "full" {
         return Some(SyncMode::Full);
     }
+    if word == "sector" {
+        return Some(SyncMode::Sector);
+    }
     if word == "append" {
         return Some(SyncMode::Append);
     }
@@ -709,7 +713,7 @@ fn unknown_mode(alloc: Global, word: &str) -> Error
     ensures { HasKind (ErrorKind.InvalidValue ∷ []) result }
 {
     match format!(in alloc;
-        "invalid value '{word}' for '--sync <MODE>'\n  [possible values: full, append, none]"
+        "invalid value '{word}' for '--sync <MODE>'\n  [possible values: full, sector, append, none]"
     ) {
         Ok(message) => refusal(alloc, false, ErrorKind::InvalidValue, &message),
         Err(refused) => Error::from(refused),

@@ -6,7 +6,7 @@ use Rattle.stm_history_text.specs.Starts.{Start}
 use Rattle.stm_journal.specs.declared.replace.ReplaceError.{ReplaceError}
 use Rattle.stm_journal.specs.declared.replace.ReplaceError.TheVariants.{Refused, Unfinished}
 use Rattle.stm_journal.specs.declared.sync_mode.SyncMode.{SyncMode}
-use Rattle.stm_journal.specs.declared.sync_mode.SyncMode.TheVariants.{Full, Append, Never}
+use Rattle.stm_journal.specs.declared.sync_mode.SyncMode.TheVariants.{Full, Sector, Append, Never}
 use Rattle.stm_journal.specs.Disk.{CrashLeaves, Disk, FailsOnlyByDisk, IsOneOf, LeavesOnly, Shows}
 use Rattle.stm_journal.specs.Journal.{IsAtRest}
 use Rattle.stm_journal.specs.Replacing.{OnRefused, error_within}
@@ -71,6 +71,8 @@ all_lines begun start history c none is text =
 text_left : (s : SyncMode) (zeros begun : Bool) (start : Start) (history : List Event) (c : List ℕ) → begun ≡ false → history ≡ [] → IsWhole c → c ≡ history_text start []
     → LeavesHistory s zeros begun start history [] c
 text_left Full zeros begun start history c first none is text = all_lines begun start history c none is text
+text_left Sector zeros false start history c first none is text = all_lines false start history c none is text
+text_left Sector zeros true start history c first none is text = absurd (cc first)
 text_left Append zeros false start history c first none is text = all_lines false start history c none is text
 text_left Append zeros true start history c first none is text = absurd (cc first)
 text_left Never zeros begun start history c first none is text = tt

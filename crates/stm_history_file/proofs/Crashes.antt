@@ -7,7 +7,7 @@ use Rattle.stm_events.specs.SlowDesk.{Slow}
 use Rattle.stm_history_text.specs.HistoryText.{history_text, event_lines}
 use Rattle.stm_history_text.specs.Starts.{Start}
 use Rattle.stm_journal.specs.declared.sync_mode.SyncMode.{SyncMode}
-use Rattle.stm_journal.specs.declared.sync_mode.SyncMode.TheVariants.{Full, Append, Never}
+use Rattle.stm_journal.specs.declared.sync_mode.SyncMode.TheVariants.{Full, Sector, Append, Never}
 use Rattle.stm_journal.specs.Disk.{Disk, LeavesOnly}
 use Rattle.stm_journal.specs.Journal.{AtRest, MayLeave, most_batch}
 use Rattle.stm_journal.specs.Journal as journal
@@ -32,6 +32,8 @@ leaves_batch : (sync : SyncMode) (zeros begun : Bool) (start : Start) (history e
     → text ++ batch ≡ history_text start (history ++ events) → batch ≡ batch_text begun start events → (s : Slow) → AreFit start.format s events → length batch ≤ most_batch
     → MayLeave (batch_sync sync begun) zeros text batch c → LeavesHistory sync zeros begun start history events c
 leaves_batch Full zeros begun start history events text batch c is longer parts s fit small h = all_or_none begun start history events text batch c is longer small h
+leaves_batch Sector zeros false start history events text batch c is longer parts s fit small h = all_or_none false start history events text batch c is longer small h
+leaves_batch Sector zeros true start history events text batch c is longer parts s fit small h = all_or_none true start history events text batch c is longer small h
 leaves_batch Append zeros false start history events text batch c is longer parts s fit small h = all_or_none false start history events text batch c is longer small h
 leaves_batch Append true true start history events text batch c is longer parts s fit small h =
     let first = first_of start.format s events h.count fit (subst (λ (l : List ℕ). IsWhole (take h.count l)) parts h.front) in
@@ -54,6 +56,8 @@ nothing_dropped c is = omega (arith, is)
 pub left_alone : (s : SyncMode) (zeros begun : Bool) (start : Start) (history events : List Event) (c : List ℕ) → IsWhole c → c ≡ file_text begun start history
     → LeavesHistory s zeros begun start history events c
 left_alone Full zeros begun start history events c is text = record { lines = inl (recovered_whole c is ∙ text); dropped = nothing_dropped c is }
+left_alone Sector zeros false start history events c is text = record { lines = inl (recovered_whole c is ∙ text); dropped = nothing_dropped c is }
+left_alone Sector zeros true start history events c is text = record { lines = inl (recovered_whole c is ∙ text); dropped = nothing_dropped c is }
 left_alone Append zeros false start history events c is text = record { lines = inl (recovered_whole c is ∙ text); dropped = nothing_dropped c is }
 left_alone Append true true start history events c is text =
     record { count = 0; lines = recovered_whole c is ∙ text ∙ ap (history_text start) (sym (append-nil history)); dropped = nothing_dropped c is }
@@ -64,6 +68,7 @@ left_alone Never zeros begun start history events c is text = tt
 pub if_synced : (s : SyncMode) (zeros begun : Bool) (start : Start) (history events : List Event) (c : List ℕ) → (s ≢ Never → LeavesHistory s zeros begun start history events c)
     → LeavesHistory s zeros begun start history events c
 if_synced Full zeros begun start history events c h = h (λ e. cc)
+if_synced Sector zeros begun start history events c h = h (λ e. cc)
 if_synced Append zeros begun start history events c h = h (λ e. cc)
 if_synced Never zeros begun start history events c h = tt
 
@@ -73,6 +78,8 @@ some_lines start history c is other = not_empty start history [] (append-nil (hi
 -- after the first batch: it has lines
 own_lines : (s : SyncMode) (zeros : Bool) (start : Start) (history events : List Event) (c : List ℕ) → s ≢ Never → LeavesHistory s zeros true start history events c → IsForeign c → ⊥
 own_lines Full zeros start history events c some h other =
+    ⊎_elim (λ is. some_lines start history c is other) (λ is. some_lines start (history ++ events) c is other) h.lines
+own_lines Sector zeros start history events c some h other =
     ⊎_elim (λ is. some_lines start history c is other) (λ is. some_lines start (history ++ events) c is other) h.lines
 own_lines Append true start history events c some h other = some_lines start (history ++ take h.count events) c h.lines other
 own_lines Append false start history events c some h other = not_empty start history h.more (sym h.lines ∙ other.nothing)

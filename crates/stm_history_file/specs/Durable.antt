@@ -16,7 +16,7 @@ use Rattle.stm_history.specs.Loading.{HasText, IsWholeHistory, ReportsLoadFault,
 use Rattle.stm_history_text.specs.Starts.{BlocksAreOfText, Start, first_state, format_for, read_back, state_after_start}
 use Rattle.stm_history.specs.declared.loading.Loaded.{Loaded}
 use Rattle.stm_journal.specs.declared.sync_mode.SyncMode.{SyncMode}
-use Rattle.stm_journal.specs.declared.sync_mode.SyncMode.TheVariants.{Full, Append, Never}
+use Rattle.stm_journal.specs.declared.sync_mode.SyncMode.TheVariants.{Full, Sector, Append, Never}
 use Rattle.stm_journal.specs.declared.error.JournalError.{JournalError}
 use Rattle.stm_journal.specs.declared.error.JournalError.TheVariants.{Failed, NoSpace, Full as FullFile, TooLong, TornTooLong}
 use Rattle.stm_journal.specs.declared.replace.ReplaceError.{ReplaceError}
@@ -53,6 +53,8 @@ batch_text true start events = event_lines events
 -- How a batch is synced: the first one, in which no line is of use without those before the events, with `Full`, if at all.
 abbrev pub batch_sync : SyncMode → Bool → SyncMode
 batch_sync Full begun = Full
+batch_sync Sector true = Sector
+batch_sync Sector false = Full
 batch_sync Append true = Append
 batch_sync Append false = Full
 batch_sync Never begun = Never
@@ -109,6 +111,7 @@ pub record KeepsHistoryLines (begun : Bool) (start : Start) (history : List Even
 -- what a crash may leave of a batch that is synced in this way, by whether the device fills with zeros
 abbrev pub LeavesBatch : SyncMode → Bool → Bool → Start → List Event → List Event → List ℕ → Type 0
 LeavesBatch Full zeros begun start history events file = HasAllEventsOrNone begun start history events file
+LeavesBatch Sector zeros begun start history events file = HasAllEventsOrNone begun start history events file
 LeavesBatch Append true begun start history events file = HasFirst start history events file
 LeavesBatch Append false begun start history events file = KeepsHistoryLines begun start history file
 LeavesBatch Never zeros begun start history events file = ⊤
@@ -399,8 +402,8 @@ pub record MayGoOn (start : Start) (history events : List Event) : Type 0 where
   pub new : AreEvents start.format (state_after_start start history) events
   pub legal : IsLegalFrom (first_state start) (history ++ events)
 
--- What a crash leaves with `Full` is loaded again as the history from before, or as that with all events; of a file with no
--- batch yet, as nothing. It begins where reading the lines of the start begins: at the same state, and with no table after a checkpoint.
+-- What a crash leaves with `Full` and `Sector` is loaded again as the history from before, or as that with all events; of a file with
+-- no batch yet, as nothing. It begins where reading the lines of the start begins: at the same state, and with no table after a checkpoint.
 abbrev pub AllOrNoneIsResumed : Type 0
 AllOrNoneIsResumed =
     (begun : Bool) (start : Start) (history events : List Event) (file : List ℕ)

@@ -83,7 +83,9 @@ fn add_batch<D: Device>(
     }
     match journal.sync {
         SyncMode::Never => journal.append(batch),
-        SyncMode::Full | SyncMode::Append => journal.append_first(batch, HISTORY_FRONT.len()),
+        SyncMode::Full | SyncMode::Sector | SyncMode::Append => {
+            journal.append_first(batch, HISTORY_FRONT.len())
+        }
     }
 }
 

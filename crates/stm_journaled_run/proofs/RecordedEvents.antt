@@ -16,7 +16,7 @@ use Rattle.stm_history_text.specs.Starts.{Start, declares, format_for, format_of
 use Rattle.stm_journal.specs.declared.replace.ReplaceError.{ReplaceError}
 use Rattle.stm_journal.specs.declared.replace.ReplaceError.TheVariants.{Refused, Unfinished}
 use Rattle.stm_journal.specs.declared.sync_mode.SyncMode.{SyncMode}
-use Rattle.stm_journal.specs.declared.sync_mode.SyncMode.TheVariants.{Full, Append, Never}
+use Rattle.stm_journal.specs.declared.sync_mode.SyncMode.TheVariants.{Full, Sector, Append, Never}
 use Rattle.stm_journal.specs.Disk.{Disk, LeavesOnly}
 use Rattle.stm_journal.specs.Text.{IsWhole}
 use Rattle.stm_journal.proofs.Moments.{weaker}
@@ -211,6 +211,7 @@ module _ {D : Type 0} (disk : Disk D) (f : HistoryFile D) where
 
     if_synced : (m : SyncMode) → f.journal.sync ≡ m → (c : List ℕ) → (f.journal.sync ≢ Never → LeavesHistory f.journal.sync disk.fills_with_zeros f.begun (start_in f.format t) (events_of s) [] c) → LeavesHistory f.journal.sync disk.fills_with_zeros f.begun (start_in f.format t) (events_of s) [] c
     if_synced Full e c h = h (λ n. let no : Full ≡ Never = sym e ∙ n in cc)
+    if_synced Sector e c h = h (λ n. let no : Sector ≡ Never = sym e ∙ n in cc)
     if_synced Append e c h = h (λ n. let no : Append ≡ Never = sym e ∙ n in cc)
     if_synced Never e c h = subst (λ (m : SyncMode). LeavesHistory m disk.fills_with_zeros f.begun (start_in f.format t) (events_of s) [] c) (sym e) tt
 

@@ -80,6 +80,8 @@ fn batches_are_added(rt: HostRuntime) -> Result<(), Fail> {
     assert_eq!(rt; synced.device.bytes(), THREE);
     let left = added(&rt, SyncMode::Never)?;
     assert_eq!(rt; left.device.bytes(), THREE);
+    let sector = added(&rt, SyncMode::Sector)?;
+    assert_eq!(rt; sector.device.bytes(), THREE);
     let gated = added(&rt, SyncMode::Full)?;
     assert_eq!(rt; gated.device.bytes(), THREE);
     assert_eq!(rt; gated.device.past().len(), 6usize);

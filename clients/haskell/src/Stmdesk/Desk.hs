@@ -57,7 +57,7 @@ data Options = Options
   deriving (Eq, Show)
 
 -- | What is synced before an answer is written.
-data Sync = Full | Append | None
+data Sync = Full | Sector | Append | None
   deriving (Eq, Show)
 
 -- | No option.
@@ -86,7 +86,7 @@ withDesk options body = do
     wordsOf it =
       concat
         [ maybe [] (\file -> ["--journal=" ++ file]) (journal it)
-        , maybe [] (\mode -> ["--sync", case mode of { Full -> "full"; Append -> "append"; None -> "none" }]) (sync it)
+        , maybe [] (\mode -> ["--sync", case mode of { Full -> "full"; Sector -> "sector"; Append -> "append"; None -> "none" }]) (sync it)
         , number "--checkpoint-every" (checkpointEvery it)
         , number "--workers" (workers it)
         , number "--levels" (levels it)
