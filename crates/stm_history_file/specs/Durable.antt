@@ -240,7 +240,7 @@ pub record HasBegunWith {D : Type 0} (disk : Disk D) (f : HistoryFile D) (start 
   pub short : IsTrue disk.is_honest → AreShortLines (history_text start events)
 
 -- The file is as it was.
-pub record IsAsBefore {D : Type 0} (disk : Disk D) (old new : HistoryFile D) : Type 0 where
+pub record IsUnchanged {D : Type 0} (disk : Disk D) (old new : HistoryFile D) : Type 0 where
   -- reads return the bytes that they returned
   pub seen : Shows disk new.journal.device (disk.seen old.journal.device)
   -- the file has each history that it had, and more can be recorded after it
@@ -265,7 +265,7 @@ pub record IsOldOrNew {D : Type 0} (disk : Disk D) (old new : HistoryFile D) (st
 abbrev pub BeginsAs :
     {D : Type 0} → Disk D → HistoryFile D → HistoryFile D → Start → List Event → Result (Unit {0}) ReplaceError → Type 0
 BeginsAs disk old new start events (Ok x) = HasBegunWith disk new start events
-BeginsAs disk old new start events (Err (Refused e)) = IsAsBefore disk old new
+BeginsAs disk old new start events (Err (Refused e)) = IsUnchanged disk old new
 BeginsAs disk old new start events (Err (Unfinished e)) = IsOldOrNew disk old new start events e
 
 -- The call fails only if a disk does, if memory runs out, or if a line of the history or the file is too long.
