@@ -34,7 +34,7 @@ _STEP = re.compile(r"(?m)^step (\d+) client (\d+) line (\d+) (.+)$")
 _CLIENT = re.compile(r"client (\d+) line (\d+) (waits|ready|refused|fails)(?: (.+))?")
 _WARNING = re.compile(r"(?m)^stmdesk: warning: line (\d+): (.+)$")
 _DECLARED = re.compile(r"(?m)^[ \t\r]*tvar[ \t\r]+([a-z][A-Za-z0-9_']*)(?:[ \t\r]*:[ \t\r]*([^=\n]*[^=\s]))?")
-_REFUSED = re.compile(r"(?m)^stmdesk: script line (\d+)(?:: (.+?)(?: (\d+))?)?$")
+REFUSED = re.compile(r"(?m)^stmdesk: script line (\d+)(?:: (.+?)(?: (\d+))?)?$")
 
 
 @dataclass(frozen=True)
@@ -173,13 +173,42 @@ class Exploration:
         ...     print(step.number, step.client, step.line, step.text)
         1 0 5 do { a <- readTVar x; writeTVar x (a + 1) } writes #0=1
         """
-        if self.order is None:
-            return None
+        return None if self.order is None else self._traced()[0]
+
+    def report(self) -> str:
+        """What was found, for people: the lines of the script, and the variables by their names. After a fault it has each step of the order,
+        with what it changed, and where each client is then; if nothing is wrong, the stores in which all clients have ended, and the
+        warnings. `tools/explore FILE` and `python -m stmdesk explore FILE` print it. The text may differ from version to version.
+
+        After a fault it explores once more, as `trace` does, and raises `Ended` for the same reasons.
+
+        >>> print(explore('''
+        ...     tvar x : Int = 0
+        ...     client
+        ...     submit do { a <- readTVar x; writeTVar x (a + 1) }
+        ...     finish 1
+        ...     expect x 2
+        ... ''').report(), end="")
+        missed: after this order the variable hasn't the value that line 6 expects
+          line 6: expect x 2
+          at first: x = 0
+           1  client 0, line 5: do { a <- readTVar x; writeTVar x (a + 1) }
+                  x: 0 -> 1
+          at last: x = 1
+          client 0, line 6: can go on
+              expect x 2
+        """
+        from ._report import report
+
+        return report(self)
+
+    def _traced(self) -> tuple[list[TraceStep], str]:
+        """The trace of a fault, and below it the lines of the store."""
         printed = self._more("trace")
         steps = [TraceStep(int(number), int(client), int(line), text) for number, client, line, text in _STEP.findall(printed)]
-        if [(it.number, it.client) for it in steps] != [*enumerate(self.order, 1)]:
+        if [(it.number, it.client) for it in steps] != [*enumerate(self.order or (), 1)]:
             raise BadAnswer("explore", printed)
-        return steps
+        return steps, [*_STORE.findall(printed)][-1]
 
     def _more(self, what: Literal["history", "trace"]) -> str:
         """Explores once more, and returns what is printed with this option."""
@@ -229,8 +258,8 @@ FinalCell(variable=Ref(1, 'b'), name='b', type='Int', value=30)]], outcome='righ
         raise TypeError(f"a script is a text, not {type(script).__name__}")
     by = _asked(program, max_states, all, allow_throws, progress, library_of(local, library, program=program))
     status, printed, said = _explored(by, script)
-    if status == 1 and _REFUSED.search(said):
-        raise _refusal(said, script)
+    if status == 1 and REFUSED.search(said):
+        raise script_refusal(said, script)
     if status not in (0, 3):
         raise Ended(status, said)
     try:
@@ -242,9 +271,9 @@ FinalCell(variable=Ref(1, 'b'), name='b', type='Int', value=30)]], outcome='righ
     return found
 
 
-def _refusal(said: str, script: str) -> ScriptRefused:
+def script_refusal(said: str, script: str) -> ScriptRefused:
     """What the program said of the first invalid line of a script: its number, and then the same with the reason."""
-    line, reason, place = _REFUSED.findall(said)[-1]
+    line, reason, place = REFUSED.findall(said)[-1]
     lines = script.split("\n")
     text = "".join(lines[int(line) - 1 : int(line)]).strip()
     types = dict(_DECLARED.findall("\n".join(lines[: int(line) - 1])))

@@ -116,6 +116,29 @@ _SCRIPT_NAMES = {
 }
 
 
+# Words with which lines of a script begin (docs/EXPLORE.md), and those of other model checkers, with what to write for them.
+_LINES = "tvar always never eventually client submit finish throws cancel expect assert choose repeat".split()
+_OTHER_LINES = {
+    "atomic": "every block is atomic: `submit BLOCK`",
+    "await": "a block waits by `retry`: `submit do { a <- readTVar x; if a == 1 then retry else return () }`",
+    "byte": "write `tvar NAME : Int = 0`",
+    "bool": "write `tvar NAME : Bool = False`",
+    "declare": "write `tvar NAME : TYPE = INIT`",
+    "goal": "write `eventually BLOCK`",
+    "init": "write `tvar NAME : TYPE = INIT`",
+    "int": "write `tvar NAME : Int = 0`",
+    "invariant": "write `always BLOCK`",
+    "label": "the lines of a script have no labels",
+    "loop": "write `repeat` as the last line of the section",
+    "ltl": "write `always BLOCK`, `never BLOCK` or `eventually BLOCK`",
+    "proctype": "write `client`, or `client N` for N equal ones",
+    "process": "write `client`, or `client N` for N equal ones",
+    "thread": "write `client`, or `client N` for N equal ones",
+    "var": "write `tvar NAME : TYPE = INIT`",
+    "while": "write `repeat` as the last line of the section",
+}
+_COMMENTS = ("--", "#", "//", "/*", "(*", "\\*", "%", ";")
+
 JOURNAL = "journal"  # stands for the first command of a desk that goes on from a journal
 SERVER = "server"  # and for that of a server's desk
 
@@ -170,6 +193,9 @@ def script_hint(reason: str, place: int | None, word: str, text: str, types: Map
     """The hint for the reason why a line of a script with this word and argument is invalid, or None. `types` has the variables that are
     declared before, with their types."""
     if reason == "Argument" and word == "choose":
+        negative = re.search(r"\s-(\d+)", text)
+        if negative:
+            return f"a negative number needs brackets: write `(-{negative[1]})`"
         return "`choose` takes a declared variable and 1 to 16 values of its type, parted by blanks, no two the same"
     if reason == "Argument" and word == "repeat":
         return "`repeat` stands alone, at the end of a section with a step: a `finish`, an `expect`, an `assert` or a `choose`"
@@ -181,9 +207,30 @@ def script_hint(reason: str, place: int | None, word: str, text: str, types: Map
         return f"`{word}` takes the number of a `submit` above it in its section, counted from 1"
     if word in ("assert", "eventually") and reason == "Mismatch" and place == 0:
         return f"the block of an `{word}` returns a Bool"
+    if reason == "Command":
+        return _of_no_line(word)
     if reason in _SCRIPT_NAMES:
         return _SCRIPT_NAMES[reason]
-    return hint(reason, place, None, "submit" if word in ("always", "never", "eventually", "assert") else word, text, types, None)
+    if reason == "Unexpected" and word == "expect":
+        return "`expect` takes a variable and its value, as `expect x 1`"
+    if reason == "Unexpected" and place == 0 and word in ("always", "never", "eventually", "assert"):
+        returns = "if a == 1 then return () else retry" if word == "never" else "return (a == 1)"
+        return f"`{word}` takes a block, as `{word} do {{ a <- readTVar x; {returns} }}`"
+    command = "submit" if word in ("always", "never", "eventually", "assert") else word
+    found = hint(reason, place, None, command, text, types, None)
+    if reason == "EndOfText" and command == "submit" and re.search(r"(?:[{;(]|<-|\b(?:do|then|else))$", text):
+        return f"{found}; a block is on one line" if found else "a block is on one line"
+    return found
+
+
+def _of_no_line(word: str) -> str:
+    """The hint for a word with which no line of a script begins."""
+    if word.startswith(_COMMENTS):
+        return "a comment is a line that begins with `--`, and no blank comes before that"
+    close = next((it for it in _LINES if _differ_by_one(it, word.lower()) or sorted(it) == sorted(word.lower())), None)
+    if close:
+        return f"no line of a script begins with `{word}`; did you mean `{close}`?"
+    return _OTHER_LINES.get(word.lower()) or f"{_SCRIPT_NAMES['Command']}: the words are {', '.join(_LINES)}"
 
 
 def _bad_byte(text: str, place: int) -> str | None:
@@ -355,6 +402,8 @@ class _Tokens:
         variable = self._atom_before(atom)
         if variable is not None and self._get(variable - 1) == "writeTVar":
             return f"`writeTVar` takes one value: write `{self._source(variable - 1, atom)} ({self._expression(atom)})`"
+        if head in ("", "{", ";", "then", "else"):
+            return f"a value is no action: write `return ({self._expression(atom)})`"
         if self.word in _COMPARISONS:
             return "comparisons can't be chained: write `a < b && b < c`"
         return None

@@ -396,6 +396,67 @@ class Explorations(OnProgram):
                 "tvar y : Int = 0",
                 "hint: write variables and invariants above the first `client`",
             ),
+            "client\n  -- a note\n": (
+                "line 4 of the script is refused: Command",
+                "-- a note",
+                "hint: a comment is a line that begins with `--`, and no blank comes before that",
+            ),
+            "# a note\nclient\n": (
+                "line 3 of the script is refused: Command",
+                "# a note",
+                "hint: a comment is a line that begins with `--`, and no blank comes before that",
+            ),
+            "client\nsumbit writeTVar x 1\n": (
+                "line 4 of the script is refused: Command",
+                "sumbit writeTVar x 1",
+                "hint: no line of a script begins with `sumbit`; did you mean `submit`?",
+            ),
+            "invariant do { a <- readTVar x; return (a == 0) }\nclient\n": (
+                "line 3 of the script is refused: Command",
+                "invariant do { a <- readTVar x; return (a == 0) }",
+                "hint: write `always BLOCK`",
+            ),
+            "frob\n": (
+                "line 3 of the script is refused: Command",
+                "frob",
+                "hint: no line of a script begins with this word: the words are tvar, always, never, eventually, client, submit, finish, "
+                "throws, cancel, expect, assert, choose, repeat",
+            ),
+            "always x == 0\nclient\n": (
+                "line 3 of the script is refused: Unexpected 0",
+                "always x == 0",
+                7 * " " + "^",
+                "hint: `always` takes a block, as `always do { a <- readTVar x; return (a == 1) }`",
+            ),
+            "never x == 0\nclient\n": (
+                "line 3 of the script is refused: Unexpected 0",
+                "never x == 0",
+                6 * " " + "^",
+                "hint: `never` takes a block, as `never do { a <- readTVar x; if a == 1 then return () else retry }`",
+            ),
+            "client\nexpect x == 1\n": (
+                "line 4 of the script is refused: Unexpected 2",
+                "expect x == 1",
+                9 * " " + "^",
+                "hint: `expect` takes a variable and its value, as `expect x 1`",
+            ),
+            "client\nchoose x 2 -1\n": (
+                "line 4 of the script is refused: Argument",
+                "choose x 2 -1",
+                "hint: a negative number needs brackets: write `(-1)`",
+            ),
+            "client\nsubmit do {\n  writeTVar x 1\n}\n": (
+                "line 4 of the script is refused: EndOfText",
+                "submit do {",
+                11 * " " + "^",
+                "hint: the `{` at 3 isn't closed; a block is on one line",
+            ),
+            "always do { a <- readTVar x; a == 0 }\nclient\n": (
+                "line 3 of the script is refused: Unexpected 24",
+                "always do { a <- readTVar x; a == 0 }",
+                31 * " " + "^",
+                "hint: a value is no action: write `return (a == 0)`",
+            ),
             "": ("the script is refused at its end, line 3: no client", "hint: what a client does begins with a line `client`"),
         }
         for script, wanted in refusals.items():

@@ -1,0 +1,246 @@
+"""Says what an exploration found with the names of the variables and the lines of the script; and runs one from a command line."""
+
+from __future__ import annotations
+
+import argparse
+import os
+import re
+import sys
+import textwrap
+from collections.abc import Sequence
+from pathlib import Path
+
+from ._errors import DeskError, Ended, ScriptRefused
+from ._explore import ClientAt, Exploration, TraceStep, explore
+
+WIDTH = 132  # of a list of variables
+MOST = 40  # variables that are shown if nothing happens to them
+
+_BLANKS = " \t\r"
+_INIT = re.compile(r"[a-z][A-Za-z0-9_']*\s*:[^=]*=\s*(.+)")
+_NAME = re.compile(r"[a-z][A-Za-z0-9_']*")
+_NUMBER = re.compile(r"#(\d+)")
+_DID = re.compile(r"(?:^|.* )(?:writes (?P<writes>none|#\d+=.*?)(?: news (?P<news>.+))?|throws (?P<fault>\S+))$")
+_CELL = re.compile(r"(?m)^#(\d+) (?:\S+ )?: .+ = (\S+)$")
+
+_OUTCOMES = {
+    "right": "right: no order of the steps leads to a fault",
+    "incomplete": "incomplete: more states can be reached than may be kept, and no fault was found in these",
+    "deadlock": "deadlock: no client can do its next step, and not all are at their end",
+    "broken": "broken: the invariant of line {line} doesn't hold after this order",
+    "missed": "missed: after this order the variable hasn't the value that line {line} expects",
+    "failed": "failed: the assertion of line {line} doesn't hold after this order",
+    "threw": "threw: after this order the block of the `finish` in line {line} throws, and no `throws` allows it",
+    "stuck": "stuck: after this order client {client} can't ever do its next step, whatever the others do",
+    "never reached": "never reached: after this order no other one leads to where the goal of line {line} returns True",
+}
+
+
+class _Script:
+    """The lines of a script: what each is, and which client has it."""
+
+    def __init__(self, text: str) -> None:
+        self.lines = [it.strip(_BLANKS) for it in text.split("\n")]
+        self.names: list[str] = []  # of the variables, by their number
+        self.first: list[str] = []  # their first values
+        self.begins: list[int] = []  # the line, counted from 0, that begins the section of each client
+        for at, line in enumerate(self.lines):
+            word, rest = self.parts(at)
+            if word == "tvar" and (init := _INIT.fullmatch(rest)):
+                self.names.append(rest.split(":")[0].strip(_BLANKS))
+                self.first.append(_value(init[1].strip(_BLANKS)))
+            elif word == "client":
+                self.begins += [at] * int(rest or "1")
+
+    def parts(self, at: int) -> tuple[str, str]:
+        """The word and the argument of a line; nothing of a comment."""
+        word, *rest = self.lines[at].split(None, 1)[:2] or [""]
+        return ("", "") if word.startswith("--") else (word, "".join(rest))
+
+    def block(self, number: int) -> str:
+        """The block of the line of this number: its own, or that of the `submit` that a `finish` or a `throws` names."""
+        word, rest = self.parts(number - 1)
+        if word not in ("finish", "throws", "cancel") or not rest.isdigit():
+            return rest
+        begin = number - 1
+        while begin and self.parts(begin)[0] != "client":
+            begin -= 1
+        submits = [argument for word, argument in map(self.parts, range(begin, number - 1)) if word == "submit"]
+        return submits[int(rest) - 1] if 0 < int(rest) <= len(submits) else rest
+
+    def named(self, text: str) -> str:
+        """A text of the program with names in place of the numbers of variables."""
+        return _NUMBER.sub(lambda it: self.names[int(it[1])] if int(it[1]) < len(self.names) else it[0], text)
+
+
+def _value(text: str) -> str:
+    """A first value as the program prints it; a name of a variable stays."""
+    number = re.fullmatch(r"\(\s*(-)\s*(\d+)\s*\)|(\d+)", text)
+    return str(int((number[1] or "") + (number[2] or number[3]))) if number else re.sub(r"\s", "", text)
+
+
+def report(found: Exploration) -> str:
+    """The text of `Exploration.report`."""
+    script = _Script(found.script)
+    lines = [_OUTCOMES[found.outcome].format(line=found.line, client=found.client)]
+    if found.order is None:
+        lines += _counts(found, script)
+    else:
+        lines += _at_line(found, script)
+        lines += _steps(found, script)
+        lines += _clients(found, script)
+    return "\n".join(lines) + "\n"
+
+
+def _counts(found: Exploration, script: _Script) -> list[str]:
+    states = f"{found.states} {'state' if found.states == 1 else 'states'}"
+    lines = [f"  {states}, {found.ended} of them with every client at its end"]
+    for store in found.stores:
+        lines += _variables("at an end:", {it.variable.number: _shown(it.value) for it in store}, set(), script)
+    if found.ended > len(found.stores):
+        lines.append(f"  .. and {found.ended - len(found.stores)} more")
+    for it in found.warnings:
+        lines += [f"  warning: line {it.line}: {it.text}", f"      {script.lines[it.line - 1]}"]
+    return lines
+
+
+def _shown(value: object) -> str:
+    return "()" if value is None else str(value)
+
+
+def _at_line(found: Exploration, script: _Script) -> list[str]:
+    """The line of the fault, and what may be wrong with it if it is an invariant."""
+    if found.line is None:
+        return []
+    word, block = script.parts(found.line - 1)
+    lines = [f"  line {found.line}: {script.lines[found.line - 1]}"]
+    if word == "finish":
+        lines.append(f"      {script.block(found.line)}")
+    if word == "never" and found.outcome == "broken" and not re.search(r"\bretry\b", block):
+        lines.append("  hint: the block of a `never` has to retry, and this one can't: of a condition that shouldn't hold write")
+        lines.append("      never do { ..; if CONDITION then return () else retry }")
+    return lines
+
+
+def _steps(found: Exploration, script: _Script) -> list[str]:
+    """The variables at first, each step with what it changed, and the variables at last."""
+    steps, last = found._traced()
+    store = dict(enumerate(script.first))
+    touched: set[int] = {it.number for client in found.clients for it in client.reads}
+    first, lines = dict(store), []
+    for step in steps:
+        lines += _step(step, script, store, touched)
+    end = {int(number): script.named(value) for number, value in _CELL.findall(last)}
+    return [*_variables("at first:", first, touched, script), *lines, *_variables("at last:", end, touched, script)]
+
+
+def _step(step: TraceStep, script: _Script, store: dict[int, str], touched: set[int]) -> list[str]:
+    """A step of the order; it is done in the store."""
+    word, rest = script.parts(step.line - 1)
+    head = f"{step.number:4}  client {step.client}, line {step.line}: "
+    if word == "choose":
+        name, value = step.text.removeprefix("chooses ").split(None, 1)
+        writes, does = [(script.names.index(name), _value(value))], f"chooses {name} = {_value(value)}"
+    elif word != "finish":
+        return [f"{head}{word} {rest}"]
+    else:
+        writes, does = [], script.block(step.line)
+    did = _DID.fullmatch(step.text)
+    lines = [head + does]
+    if did and did["fault"]:
+        return [*lines, f"          throws {did['fault']}"]
+    base, made = len(store), (did["news"] or "").split() if did else []
+    renamed = [re.sub(r"^new(\d+)$", lambda it: f"#{base + int(it[1])}", it) for it in made]
+    store.update({base + at: script.named(value) for at, value in enumerate(renamed)})
+    if did and did["writes"] != "none":
+        pairs = (it.split("=", 1) for it in did["writes"].split(" "))
+        writes = [(int(it[1:]), re.sub(r"^new(\d+)$", lambda new: f"#{base + int(new[1])}", value)) for it, value in pairs]
+    for at, value in writes:
+        before, store[at] = store.get(at, ""), script.named(value)
+        touched.add(at)
+        lines.append(f"          {_variable(at, script)}: {before} -> {store[at]}" if before != store[at] else f"          {_variable(at, script)} stays {before}")
+    lines += [f"          #{base + at} is new: {store[base + at]}" for at in range(len(made))]
+    return lines if writes or made else [*lines, "          changes nothing"]
+
+
+def _variable(number: int, script: _Script) -> str:
+    return script.named(f"#{number}")
+
+
+def _variables(head: str, store: dict[int, str], touched: set[int], script: _Script) -> list[str]:
+    """The variables with their values on lines of at most WIDTH columns; if there are more than MOST, those that are touched alone."""
+    shown = [at for at in store if at in touched or len(store) <= MOST]
+    if not shown:
+        return []
+    text = ", ".join(f"{_variable(at, script)} = {script.named(store[at])}" for at in shown)
+    left = f", and {len(store) - len(shown)} more" if len(shown) < len(store) else ""
+    return textwrap.wrap(f"  {head} {text}{left}", WIDTH, subsequent_indent="      ", break_long_words=False, break_on_hyphens=False)
+
+
+def _clients(found: Exploration, script: _Script) -> list[str]:
+    """Where each client is."""
+    at, lines = {it.client: it for it in found.clients}, []
+    for client in range(len(script.begins)):
+        lines += _client(at[client], script) if client in at else [f"  client {client} is at its end"]
+    return lines
+
+
+def _client(it: ClientAt, script: _Script) -> list[str]:
+    reads = ", ".join(f"{_variable(ref.number, script)} = {_shown(value)}" for ref, value in it.reads.items())
+    does = {
+        "waits": f"waits, since it read {reads or 'nothing'}",
+        "ready": "can go on",
+        "refused": "can't finish, since the store is full",
+        "fails": "fails",
+    }[it.what]
+    word = script.parts(it.line - 1)[0]
+    next_step = script.block(it.line) if word == "finish" else script.lines[it.line - 1]
+    return [f"  client {it.client}, line {it.line}: {does}", f"      {next_step}"]
+
+
+def main(words: Sequence[str], name: str) -> int:
+    """The command `name` with these words: explores the script in a file, and prints the report."""
+    parser = argparse.ArgumentParser(
+        name,
+        description="Explores the script in a file, as `stmdesk explore` does, and prints what was found with the names of the variables "
+        "and the lines of the script: of a fault each step that leads there, and of an invalid line its place and a hint.",
+        epilog="Exit statuses: 0 right, 1 a line of the script is invalid, or the file can't be read, 2 the words are wrong, 3 a fault or "
+        "incomplete, 4 out of memory. The options are those of `stmdesk explore` (docs/EXPLORE.md).",
+        allow_abbrev=False,
+    )
+    parser.add_argument("script", metavar="SCRIPT", nargs="?", default="-", help="the file of the script; without it, or by -, standard input")
+    parser.add_argument("--progress", action="store_true", help="it is a fault if a client can't ever do its next step")
+    parser.add_argument("--all", action="store_true", help="explores every state")
+    parser.add_argument("--allow-throws", action="store_true", help="takes no throw of a block for a fault")
+    parser.add_argument("--max-states", type=int, metavar="N", help="how many states may be kept; 1,000,000 if nothing is said")
+    parser.add_argument("--program", metavar="PROGRAM", help="the program; without it that of find_program()")
+    asked = parser.parse_args(words)
+    try:
+        text = sys.stdin.read() if asked.script == "-" else Path(asked.script).read_text(encoding="utf-8", errors="surrogateescape")
+    except OSError as error:
+        print(f"{name}: {asked.script}: {os.strerror(error.errno or 0)}", file=sys.stderr)
+        return 1
+    try:
+        options = {"all": asked.all, "allow_throws": asked.allow_throws, "progress": asked.progress}
+        found = explore(text, program=asked.program, max_states=asked.max_states, **options)
+        print(report(found), end="")
+    except ScriptRefused as refused:
+        print(_refused("script" if asked.script == "-" else asked.script, text, refused), file=sys.stderr)
+        return 1
+    except Ended as ended:
+        print(f"{name}: {ended}", file=sys.stderr)
+        return ended.status if 0 < ended.status < 5 else 1
+    except (DeskError, OSError) as error:
+        print(f"{name}: {error}", file=sys.stderr)
+        return 1
+    return 0 if found else 3
+
+
+def _refused(file: str, text: str, refused: ScriptRefused) -> str:
+    """What is wrong with a line, with its number and the column in the file, both counted from 1."""
+    where = f"{file}:{refused.line}"
+    if refused.place is not None:
+        line = text.split("\n")[refused.line - 1]
+        argument = re.match(r"[ \t\r]*[^ \t\r]+[ \t\r]*", line)
+        where += f":{(argument.end() if argument else 0) + refused.place + 1}"
+    return f"{where}: {refused}"

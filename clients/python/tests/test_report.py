@@ -1,0 +1,214 @@
+"""The reports of explorations, and the command that prints them."""
+
+import pathlib
+import subprocess
+import sys
+import tempfile
+
+from stmdesk import explore
+from tests.common import HERE, REPOSITORY, SECONDS, OnProgram, library, needs_process, program
+
+FORKS = """\
+-- two forks
+tvar left : Bool = True
+tvar right : Bool = True
+
+client
+submit do { f <- readTVar left; if f then writeTVar left False else retry }
+submit do { f <- readTVar right; if f then writeTVar right False else retry }
+finish 1
+finish 2
+submit do { writeTVar left True; writeTVar right True }
+finish 3
+client
+submit do { f <- readTVar right; if f then writeTVar right False else retry }
+finish 1
+submit do { f <- readTVar left; if f then writeTVar left False else retry }
+finish 2
+submit do { writeTVar left True; writeTVar right True }
+finish 3
+client
+submit return 1
+finish 1
+"""
+
+
+def without_a_desk():
+    return {"local": True, "library": library} if library else {"program": program}
+
+
+class Reports(OnProgram):
+    def report(self, script, **options):
+        return explore(script, **without_a_desk(), **options).report()
+
+    def assert_report(self, script, *lines, **options):
+        self.assertEqual(self.report(script, **options).split("\n"), [*lines, ""])
+
+    def test_deadlock(self):
+        self.assert_report(
+            FORKS,
+            "deadlock: no client can do its next step, and not all are at their end",
+            "  at first: left = True, right = True",
+            "   1  client 0, line 8: do { f <- readTVar left; if f then writeTVar left False else retry }",
+            "          left: True -> False",
+            "   2  client 1, line 14: do { f <- readTVar right; if f then writeTVar right False else retry }",
+            "          right: True -> False",
+            "   3  client 2, line 21: return 1",
+            "          changes nothing",
+            "  at last: left = False, right = False",
+            "  client 0, line 9: waits, since it read right = False",
+            "      do { f <- readTVar right; if f then writeTVar right False else retry }",
+            "  client 1, line 16: waits, since it read left = False",
+            "      do { f <- readTVar left; if f then writeTVar left False else retry }",
+            "  client 2 is at its end",
+        )
+
+    def test_steps_of_every_kind(self):
+        script = "tvar n : Int = (-07)\ntvar b : Bool = False\nclient\nexpect b False\nchoose n (-1) 3\nsubmit throw 4\nthrows 1\nfinish 1\n"
+        script += "assert do { a <- readTVar n; return (a == 3 || a == (-1)) }\nsubmit writeTVar b False\nfinish 2\n"
+        script += "assert do { a <- readTVar n; return (a == 3) }\n"
+        self.assert_report(
+            script,
+            "failed: the assertion of line 12 doesn't hold after this order",
+            "  line 12: assert do { a <- readTVar n; return (a == 3) }",
+            "  at first: n = -7, b = False",
+            "   1  client 0, line 4: expect b False",
+            "   2  client 0, line 5: chooses n = -1",
+            "          n: -7 -> -1",
+            "   3  client 0, line 8: throw 4",
+            "          throws 4",
+            "   4  client 0, line 9: assert do { a <- readTVar n; return (a == 3 || a == (-1)) }",
+            "   5  client 0, line 11: writeTVar b False",
+            "          b stays False",
+            "  at last: n = -1, b = False",
+            "  client 0, line 12: fails",
+            "      assert do { a <- readTVar n; return (a == 3) }",
+        )
+
+    def test_new_variables(self):
+        script = "tvar x : Int = 1\ntvar r : TVar Int = x\nalways do { at <- readTVar r; a <- readTVar at; return (a < 6) }\nclient 2\n"
+        block = "do { n <- newTVar 5; m <- newTVar n; writeTVar r n; at <- readTVar m; a <- readTVar x; writeTVar x (a + 1); writeTVar at (a + 4) }"
+        script += f"submit {block}\nfinish 1\n"
+        self.assert_report(
+            script,
+            "broken: the invariant of line 3 doesn't hold after this order",
+            "  line 3: always do { at <- readTVar r; a <- readTVar at; return (a < 6) }",
+            "  at first: x = 1, r = x",
+            f"   1  client 0, line 6: {block}",
+            "          x: 1 -> 2",
+            "          r: x -> #2",
+            "          #2 is new: 5",
+            "          #3 is new: #2",
+            f"   2  client 1, line 6: {block}",
+            "          x: 2 -> 3",
+            "          r: #2 -> #4",
+            "          #4 is new: 6",
+            "          #5 is new: #4",
+            "  at last: x = 3, r = #4, #2 = 5, #3 = #2, #4 = 6, #5 = #4",
+            "  client 0 is at its end",
+            "  client 1 is at its end",
+        )
+
+    def test_a_throw_and_a_missed_expectation(self):
+        script = "tvar x : Int = 0\nclient\nsubmit do { a <- readTVar x; if a == 1 then throw 5 else return () }\nsubmit writeTVar x 1\nfinish 2\nfinish 1\n"
+        lines = self.report(script).split("\n")
+        self.assertEqual(lines[0], "threw: after this order the block of the `finish` in line 6 throws, and no `throws` allows it")
+        self.assertEqual(lines[1:3], ["  line 6: finish 1", "      do { a <- readTVar x; if a == 1 then throw 5 else return () }"])
+        self.assertEqual(lines[-3:], ["  client 0, line 6: can go on", "      do { a <- readTVar x; if a == 1 then throw 5 else return () }", ""])
+        missed = self.report("tvar x : Int = 0\nclient\nexpect x 1\n").split("\n")
+        self.assertEqual(missed[:2], ["missed: after this order the variable hasn't the value that line 3 expects", "  line 3: expect x 1"])
+
+    def test_progress(self):
+        script = "tvar free : Bool = True\nclient\nsubmit do { f <- readTVar free; if f then writeTVar free False else retry }\nfinish 1\nrepeat\n"
+        clock = "client\nassert return True\nrepeat\n"
+        found = self.report(script + clock, progress=True)
+        self.assertTrue(found.startswith("stuck: after this order client 0 can't ever do its next step, whatever the others do\n"))
+        goal = "tvar x : Int = 0\neventually do { a <- readTVar x; return (a == 2) }\nclient\nsubmit writeTVar x 1\nfinish 1\n"
+        lines = self.report(goal).split("\n")
+        self.assertEqual(lines[0], "never reached: after this order no other one leads to where the goal of line 2 returns True")
+        self.assertEqual(lines[1], "  line 2: eventually do { a <- readTVar x; return (a == 2) }")
+
+    def test_a_never_that_cannot_retry(self):
+        never = "tvar x : Int = 0\nnever do {{ a <- readTVar x; {} }}\nclient\nsubmit writeTVar x 5\nfinish 1\n"
+        for block, is_hinted in (("return (a == 5)", True), ("if a == 5 then return () else retry", False)):
+            self.assertEqual("hint: the block of a `never` has to retry" in self.report(never.format(block)), is_hinted)
+
+    def test_right(self):
+        script = "tvar x : Int = 0\nclient\nchoose x 1 2\nsubmit retry\n"
+        self.assert_report(
+            script,
+            "right: no order of the steps leads to a fault",
+            "  3 states, 2 of them with every client at its end",
+            "  at an end: x = 1",
+            "  at an end: x = 2",
+            "  warning: line 4: no `finish` and no `cancel` names this block",
+            "      submit retry",
+        )
+        many = "tvar x : Int = 0\nclient\nchoose x 1 2 3 4 5 6 7 8 9 10 11 12\n"
+        self.assertTrue(self.report(many).endswith("  .. and 2 more\n"))
+        self.assertEqual(self.report("client"), "right: no order of the steps leads to a fault\n  1 state, 1 of them with every client at its end\n")
+
+    def test_incomplete(self):
+        script = "tvar x : Int = 0\nclient\nsubmit writeTVar x 1\nfinish 1\n"
+        self.assertTrue(self.report(script, max_states=1).startswith("incomplete: more states can be reached than may be kept"))
+
+    def test_many_variables(self):
+        """Of more than 40 those are shown that a step writes, or that a client which waits has read."""
+        script = "".join(f"tvar v{at} : Int = {at}\n" for at in range(100))
+        script += "client\nsubmit writeTVar v7 1\nfinish 1\nsubmit do { a <- readTVar v9; retry }\nfinish 2\n"
+        lines = self.report(script).split("\n")
+        self.assertEqual(lines[1], "  at first: v7 = 7, v9 = 9, and 98 more")
+        self.assertEqual(lines[4], "  at last: v7 = 1, v9 = 9, and 98 more")
+        wide = "".join(f"tvar a_long_name_of_a_variable_{at} : Int = {at}\n" for at in range(9)) + "client\nsubmit retry\nfinish 1\n"
+        first = self.report(wide).split("\n")[1:4]
+        self.assertTrue(all(len(it) <= 132 for it in first))
+        self.assertTrue(first[0].startswith("  at first: a_long_name_of_a_variable_0 = 0, ") and first[1].startswith("      a_long"))
+
+
+@needs_process("a command")
+class Command(OnProgram):
+    def ran(self, *words, text=None):
+        command = [sys.executable, REPOSITORY / "tools" / "explore", "--program", program, *words]
+        return subprocess.run(command, input=text, capture_output=True, text=True, timeout=SECONDS)
+
+    def assert_ran(self, done, status, printed="", said=""):
+        self.assertEqual((done.returncode, done.stdout, done.stderr), (status, printed, said))
+
+    def test_statuses(self):
+        self.assert_ran(self.ran(text=FORKS), 3, explore(FORKS, program=program).report())
+        right = "tvar x : Int = 0\nclient\nsubmit writeTVar x 1\nfinish 1\n"
+        self.assert_ran(self.ran("-", text=right), 0, explore(right, program=program).report())
+        self.assertEqual(self.ran("--max-states", "1", text=right).returncode, 3)
+        self.assertEqual(self.ran("--max-states", "0", text=right).returncode, 2)
+        self.assertEqual(self.ran("--wrong", text=right).returncode, 2)
+        self.assert_ran(self.ran("/no/such/file"), 1, "", "explore: /no/such/file: No such file or directory\n")
+        self.assert_ran(self.ran("/"), 1, "", "explore: /: Is a directory\n")
+
+    def test_options(self):
+        throws = "client\nsubmit throw 1\nfinish 1\n"
+        self.assertEqual([self.ran(*it, text=throws).returncode for it in ((), ("--allow-throws",))], [3, 0])
+        stuck = "client\nsubmit retry\nfinish 1\nclient\nassert return True\nrepeat\n"
+        self.assertEqual([self.ran(*it, text=stuck).returncode for it in ((), ("--all",), ("--progress",))], [0, 0, 3])
+
+    def test_an_invalid_line(self):
+        """Its place is that in the file, which an editor finds."""
+        with tempfile.TemporaryDirectory() as folder:
+            file = pathlib.Path(folder) / "wrong.stm"
+            file.write_text("tvar x : Int = 0\nclient\n  submit \t do { a <- readTVar x; if a >= 1 then retry else return () }\n")
+            said = f"{file}:3:39: line 3 of the script is refused: BadByte 27\n"
+            said += "    submit do { a <- readTVar x; if a >= 1 then retry else return () }\n"
+            said += 38 * " " + "^\n    hint: there is no `>=`: write `1 <= a`\n"
+            done = self.ran(file)
+            self.assertEqual((done.returncode, done.stdout), (1, ""))
+            self.assertEqual(done.stderr, said)
+            self.assertEqual(file.read_text().split("\n")[2][38:40], ">=")
+        self.assert_ran(self.ran(text="client\nfrob\n"), 1, "", self.ran(text="client\nfrob\n").stderr)
+        self.assertTrue(self.ran(text="client\nfrob\n").stderr.startswith("script:2: line 2 of the script is refused: Command\n    frob\n    hint: "))
+
+    def test_as_a_module(self):
+        command = [sys.executable, "-m", "stmdesk", "explore", "--program", program]
+        done = subprocess.run(command, input=FORKS, capture_output=True, text=True, timeout=SECONDS, cwd=HERE)
+        self.assert_ran(done, 3, explore(FORKS, program=program).report())
+        bare = subprocess.run([sys.executable, "-m", "stmdesk"], capture_output=True, text=True, timeout=SECONDS, cwd=HERE)
+        self.assertEqual((bare.returncode, bare.stdout), (1, ""))
+        self.assertIn("python -m stmdesk explore", bare.stderr)
