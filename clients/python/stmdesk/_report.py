@@ -243,4 +243,7 @@ def _refused(file: str, text: str, refused: ScriptRefused) -> str:
         line = text.split("\n")[refused.line - 1]
         argument = re.match(r"[ \t\r]*[^ \t\r]+[ \t\r]*", line)
         where += f":{(argument.end() if argument else 0) + refused.place + 1}"
-    return f"{where}: {refused}"
+    said, *shown = str(refused).split("\n")
+    if refused.text:
+        said = said.partition(" is refused: ")[2] or "refused"
+    return "\n".join([f"{where}: {said}", *shown])

@@ -195,15 +195,16 @@ class Command(OnProgram):
         with tempfile.TemporaryDirectory() as folder:
             file = pathlib.Path(folder) / "wrong.stm"
             file.write_text("tvar x : Int = 0\nclient\n  submit \t do { a <- readTVar x; if a >= 1 then retry else return () }\n")
-            said = f"{file}:3:39: line 3 of the script is refused: BadByte 27\n"
+            said = f"{file}:3:39: BadByte 27\n"
             said += "    submit do { a <- readTVar x; if a >= 1 then retry else return () }\n"
             said += 38 * " " + "^\n    hint: there is no `>=`: write `1 <= a`\n"
             done = self.ran(file)
             self.assertEqual((done.returncode, done.stdout), (1, ""))
             self.assertEqual(done.stderr, said)
             self.assertEqual(file.read_text().split("\n")[2][38:40], ">=")
-        self.assert_ran(self.ran(text="client\nfrob\n"), 1, "", self.ran(text="client\nfrob\n").stderr)
-        self.assertTrue(self.ran(text="client\nfrob\n").stderr.startswith("script:2: line 2 of the script is refused: Command\n    frob\n    hint: "))
+        self.assertTrue(self.ran(text="client\nfrob\n").stderr.startswith("script:2: Command\n    frob\n    hint: no line "))
+        ends = "script:1: the script is refused at its end, line 1: no client\n    hint: what a client does begins with a line `client`\n"
+        self.assert_ran(self.ran(text=""), 1, "", ends)
 
     def test_as_a_module(self):
         command = [sys.executable, "-m", "stmdesk", "explore", "--program", program]
