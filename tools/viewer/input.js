@@ -47,6 +47,9 @@ function step(direction) {
   for (let e = S.at + direction; e >= 1 && e <= E; e += direction) if (passes(e)) return go(e);
 }
 
+// The next finish in this direction, whatever is chosen: in the history of an exploration the steps of its order.
+function toFinish(direction) { for (let e = S.at + direction; e >= 1 && e <= E; e += direction) if (kindOf(e) == "f") return go(e); }
+
 const deeds = {
   in: () => zoom(0.6), out: () => zoom(1 / 0.6), all: () => view(0.5, E + 0.5),
   left: () => shift(-0.4), right: () => shift(0.4),
@@ -109,6 +112,7 @@ document.addEventListener("keydown", it => {
     ArrowUp: () => scroll(-L.lane * 3), ArrowDown: () => scroll(L.lane * 3),
     PageUp: () => scroll(-L.height * 0.8), PageDown: () => scroll(L.height * 0.8),
     "+": deeds.in, "=": deeds.in, "-": deeds.out, 0: deeds.all, "[": deeds.left, "]": deeds.right, n: () => step(1), p: () => step(-1),
+    ".": () => toFinish(1), ",": () => toFinish(-1),
     l: () => by({ticket: "client", client: "block", block: "ticket"}[S.by]), "/": () => $("text").focus(), t: deeds.theme, "?": deeds.help,
     ...it.target == over ? moves : {},
   };

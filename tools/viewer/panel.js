@@ -43,7 +43,8 @@ function hadReadHtml(life, e) {
 function wholeHtml() {
   const ended = how => lives.filter(it => it.how == how).length.toLocaleString("en");
   return `<p class="muted">${count(E, "event")}, ${count(lives.length, "ticket")}, format ${data.format}. Of the tickets ${ended("finished")}
-finished, ${ended("throws")} threw, ${ended("cancelled")} were cancelled and ${ended("")} still wait.</p>`;
+finished, ${ended("throws")} threw, ${ended("cancelled")} were cancelled and ${ended("")} still wait.</p>`
+    + (data.worker < 0 ? "" : '<p class="muted">In the history of an exploration each finish is a step. <kbd>.</kbd> goes to the next one, <kbd>,</kbd> back.</p>');
 }
 
 function ticketHtml(index) {
