@@ -178,7 +178,7 @@ class Exploration:
     def report(self) -> str:
         """What was found, for people: the lines of the script, and the variables by their names. After a fault it has each step of the order,
         with what it changed, and where each client is then; if nothing is wrong, the stores in which all clients have ended, and the
-        warnings. `tools/explore FILE` and `python -m stmdesk explore FILE` print it. The text may differ from version to version.
+        warnings. `python -m stmdesk.report FILE` and tools/explore print it. The text may differ from version to version.
 
         After a fault it explores once more, as `trace` does, and raises `Ended` for the same reasons.
 
@@ -198,7 +198,7 @@ class Exploration:
           client 0, line 6: can go on
               expect x 2
         """
-        from ._report import report
+        from .report import report
 
         return report(self)
 

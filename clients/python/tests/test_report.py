@@ -207,9 +207,6 @@ class Command(OnProgram):
         self.assert_ran(self.ran(text=""), 1, "", ends)
 
     def test_as_a_module(self):
-        command = [sys.executable, "-m", "stmdesk", "explore", "--program", program]
+        command = [sys.executable, "-m", "stmdesk.report", "--program", program]
         done = subprocess.run(command, input=FORKS, capture_output=True, text=True, timeout=SECONDS, cwd=HERE)
         self.assert_ran(done, 3, explore(FORKS, program=program).report())
-        bare = subprocess.run([sys.executable, "-m", "stmdesk"], capture_output=True, text=True, timeout=SECONDS, cwd=HERE)
-        self.assertEqual((bare.returncode, bare.stdout), (1, ""))
-        self.assertIn("python -m stmdesk explore", bare.stderr)

@@ -1,4 +1,8 @@
-"""Says what an exploration found with the names of the variables and the lines of the script; and runs one from a command line."""
+"""Says what an exploration found with the names of the variables and the lines of the script.
+
+`python -m stmdesk.report [OPTIONS] [SCRIPT]` explores a script and prints that; `tools/explore` of the repository is the same command. In a
+program call `explore(SCRIPT).report()`.
+"""
 
 from __future__ import annotations
 
@@ -247,3 +251,7 @@ def _refused(file: str, text: str, refused: ScriptRefused) -> str:
     if refused.text:
         said = said.partition(" is refused: ")[2] or "refused"
     return "\n".join([f"{where}: {said}", *shown])
+
+
+if __name__ == "__main__":
+    sys.exit(main(sys.argv[1:], "python -m stmdesk.report"))
