@@ -2,6 +2,7 @@
 
 from __future__ import annotations
 
+import re
 from ._values import Fault, Ref, Settled
 
 _WIDTH = 100  # characters of a line of the caller's text that an error shows
@@ -144,7 +145,7 @@ class Cancelled(DeskError):
 
 class ScriptRefused(DeskError):
     """A line of the script of `explore` is invalid, so nothing was explored. `line` is its number, counted from 1, and `text`
-    the line, which is empty if the script ends too early.
+    the line, which is empty if the script ends too early; of a block on several lines that of the first, and all of them.
 
     `reason` is the name of what is wrong (docs/STORM.md, "Scripts"), as "Mismatch" or "no client". `place` is the byte of the line's
     argument that caused it, counted from 0, or None: the argument is what follows the line's word and the blanks after it. `hint`
@@ -171,6 +172,9 @@ class ScriptRefused(DeskError):
         refused = Refused(self.reason, self.place, None, word, "".join(argument), self.hint)
         where = f"line {self.line} of the script is refused" if self.text else f"the script is refused at its end, line {self.line}"
         answer, *shown = str(refused).split("\n")
+        if shown and (found := re.match(r"    line (\d+): ", shown[0])):  # of a block on several lines, of which the first is `line`
+            label = f"    line {self.line + int(found[1]) - 1}: "
+            shown = [label + shown[0][found.end() :], " " * (len(label) - found.end()) + shown[1], *shown[2:]]
         return "\n".join([f"{where}: {answer}" if self.reason else where, *shown])
 
 

@@ -12,6 +12,7 @@ from ._answers import Answers
 from ._commands import decimal
 from ._errors import BadAnswer, Ended, ScriptRefused
 from ._hints import script_hint
+from ._lines import joined, lines_from, one_line
 from ._local import File
 from ._program import check_built, find_program, run_once
 from ._stateless import MAX_STATES, STATES, explore_once, library_of
@@ -231,7 +232,8 @@ def explore(
 ) -> Exploration:
     """Tries every order in which the clients of a script can do their steps, by `program explore`.
 
-    docs/EXPLORE.md says what a script is. At most `max_states` states are kept, 1,000,000 if nothing else is given. With
+    docs/EXPLORE.md says what a script is. Here a block may be on several lines: a line in which brackets or braces are open goes on in the
+    lines below it that are indented deeper, or begin with a closing one. At most `max_states` states are kept, 1,000,000 if nothing else is given. With
     `all` each state that can be reached is met and counted; else those that can't matter may be left out. With `allow_throws` no
     throw of a block is a fault. With `progress` it is a fault if a client can't ever do its next step again, and each state is met, as with
     `all`. Without `program` it runs what `find_program` returns. Raises `ScriptRefused` if a line of the
@@ -274,12 +276,11 @@ FinalCell(variable=Ref(1, 'b'), name='b', type='Int', value=30)]], outcome='righ
 def script_refusal(said: str, script: str) -> ScriptRefused:
     """What the program said of the first invalid line of a script: its number, and then the same with the reason."""
     line, reason, place = REFUSED.findall(said)[-1]
-    lines = script.split("\n")
-    text = "".join(lines[int(line) - 1 : int(line)]).strip()
-    types = dict(_DECLARED.findall("\n".join(lines[: int(line) - 1])))
-    word, *argument = text.split(None, 1)[:2] or [""]
+    lines = lines_from(script, int(line)) or [""]
+    types = dict(_DECLARED.findall("\n".join(script.split("\n")[: int(line) - 1])))
+    word, *argument = joined(lines).strip().split(None, 1)[:2] or [""]
     at = int(place) if place else None
-    return ScriptRefused(int(line), text, reason, at, script_hint(reason, at, word, "".join(argument), types))
+    return ScriptRefused(int(line), "\n".join(lines).strip(), reason, at, script_hint(reason, at, word, "".join(argument), types))
 
 
 def _asked(
@@ -304,6 +305,7 @@ def _explored(
     by: list[str] | tuple[str, int, bool, bool, bool], script: str, more: Literal["", "history", "trace"] = ""
 ) -> tuple[int, str, str]:
     """The exit status of an exploration, and what it writes to the two outputs, with `more` the history or the trace of a fault."""
+    script = one_line(script)
     if isinstance(by, list):
         return run_once([*by, f"--{more}"] if more else by, script)
     return explore_once(*by, script, more)

@@ -219,7 +219,8 @@ def script_hint(reason: str, place: int | None, word: str, text: str, types: Map
     command = "submit" if word in ("always", "never", "eventually", "assert") else word
     found = hint(reason, place, None, command, text, types, None)
     if reason == "EndOfText" and command == "submit" and re.search(r"(?:[{;(]|<-|\b(?:do|then|else))$", text):
-        return f"{found}; a block is on one line" if found else "a block is on one line"
+        goes_on = "a block goes on in lines that are indented deeper, while a bracket or brace is open"
+        return f"{found}; {goes_on}" if found else goes_on
     return found
 
 

@@ -16,11 +16,11 @@ from pathlib import Path
 
 from ._errors import DeskError, Ended, ScriptRefused
 from ._explore import ClientAt, Exploration, TraceStep, explore
+from ._lines import lines_from, one_line
 
 WIDTH = 132  # of a list of variables
 MOST = 40  # variables that are shown if nothing happens to them
 
-_BLANKS = " \t\r"
 _INIT = re.compile(r"[a-z][A-Za-z0-9_']*\s*:[^=]*=\s*(.+)")
 _NAME = re.compile(r"[a-z][A-Za-z0-9_']*")
 _NUMBER = re.compile(r"#(\d+)")
@@ -44,15 +44,15 @@ class _Script:
     """The lines of a script: what each is, and which client has it."""
 
     def __init__(self, text: str) -> None:
-        self.lines = [it.strip(_BLANKS) for it in text.split("\n")]
+        self.lines = [" ".join(it.split()) for it in one_line(text).split("\n")]
         self.names: list[str] = []  # of the variables, by their number
         self.first: list[str] = []  # their first values
         self.begins: list[int] = []  # the line, counted from 0, that begins the section of each client
         for at, line in enumerate(self.lines):
             word, rest = self.parts(at)
             if word == "tvar" and (init := _INIT.fullmatch(rest)):
-                self.names.append(rest.split(":")[0].strip(_BLANKS))
-                self.first.append(_value(init[1].strip(_BLANKS)))
+                self.names.append(rest.split(":")[0].strip())
+                self.first.append(_value(init[1].strip()))
             elif word == "client":
                 self.begins += [at] * int(rest or "1")
 
@@ -131,7 +131,7 @@ def _steps(found: Exploration, script: _Script) -> list[str]:
     steps, last = found._traced()
     store = dict(enumerate(script.first))
     touched: set[int] = {it.number for client in found.clients for it in client.reads}
-    first, lines = dict(store), []
+    first, lines = dict(store), list[str]()
     for step in steps:
         lines += _step(step, script, store, touched)
     end = {int(number): script.named(value) for number, value in _CELL.findall(last)}
@@ -142,13 +142,14 @@ def _step(step: TraceStep, script: _Script, store: dict[int, str], touched: set[
     """A step of the order; it is done in the store."""
     word, rest = script.parts(step.line - 1)
     head = f"{step.number:4}  client {step.client}, line {step.line}: "
+    writes: list[tuple[int, str]] = []
     if word == "choose":
         name, value = step.text.removeprefix("chooses ").split(None, 1)
         writes, does = [(script.names.index(name), _value(value))], f"chooses {name} = {_value(value)}"
     elif word != "finish":
         return [f"{head}{word} {rest}"]
     else:
-        writes, does = [], script.block(step.line)
+        does = script.block(step.line)
     did = _DID.fullmatch(step.text)
     lines = [head + does]
     if did and did["fault"]:
@@ -183,7 +184,7 @@ def _variables(head: str, store: dict[int, str], touched: set[int], script: _Scr
 
 def _clients(found: Exploration, script: _Script) -> list[str]:
     """Where each client is."""
-    at, lines = {it.client: it for it in found.clients}, []
+    at, lines = {it.client: it for it in found.clients}, list[str]()
     for client in range(len(script.begins)):
         lines += _client(at[client], script) if client in at else [f"  client {client} is at its end"]
     return lines
@@ -208,7 +209,7 @@ def main(words: Sequence[str], name: str) -> int:
         name,
         description="Explores the script in a file, as `stmdesk explore` does, and prints what was found with the names of the variables "
         "and the lines of the script: of a fault each step that leads there, and of an invalid line its place and a hint.",
-        epilog="Exit statuses: 0 right, 1 a line of the script is invalid, or the file can't be read, 2 the words are wrong, 3 a fault or "
+        epilog="Brackets and braces that are open in a line join it with those below it that are indented deeper. Exit statuses: 0 right, 1 a line of the script is invalid, or the file can't be read, 2 the words are wrong, 3 a fault or "
         "incomplete, 4 out of memory. The options are those of `stmdesk explore` (docs/EXPLORE.md).",
         allow_abbrev=False,
     )
@@ -217,6 +218,8 @@ def main(words: Sequence[str], name: str) -> int:
     parser.add_argument("--all", action="store_true", help="explores every state")
     parser.add_argument("--allow-throws", action="store_true", help="takes no throw of a block for a fault")
     parser.add_argument("--max-states", type=int, metavar="N", help="how many states may be kept; 1,000,000 if nothing is said")
+    parser.add_argument("--history", action="store_true", help="prints the history of the fault instead, for check and tools/view")
+    parser.add_argument("--plain", action="store_true", help="explores nothing, and prints the script with each block on one line, as the program takes it")
     parser.add_argument("--program", metavar="PROGRAM", help="the program; without it that of find_program()")
     asked = parser.parse_args(words)
     try:
@@ -224,10 +227,19 @@ def main(words: Sequence[str], name: str) -> int:
     except OSError as error:
         print(f"{name}: {asked.script}: {os.strerror(error.errno or 0)}", file=sys.stderr)
         return 1
+    if asked.plain:
+        print(one_line(text), end="")
+        return 0
     try:
-        options = {"all": asked.all, "allow_throws": asked.allow_throws, "progress": asked.progress}
-        found = explore(text, program=asked.program, max_states=asked.max_states, **options)
-        print(report(found), end="")
+        found = explore(
+            text,
+            program=asked.program,
+            max_states=asked.max_states,
+            all=asked.all,
+            allow_throws=asked.allow_throws,
+            progress=asked.progress,
+        )
+        print((found.history() or "") if asked.history else report(found), end="")
     except ScriptRefused as refused:
         print(_refused("script" if asked.script == "-" else asked.script, text, refused), file=sys.stderr)
         return 1
@@ -244,9 +256,10 @@ def _refused(file: str, text: str, refused: ScriptRefused) -> str:
     """What is wrong with a line, with its number and the column in the file, both counted from 1."""
     where = f"{file}:{refused.line}"
     if refused.place is not None:
-        line = text.split("\n")[refused.line - 1]
-        argument = re.match(r"[ \t\r]*[^ \t\r]+[ \t\r]*", line)
-        where += f":{(argument.end() if argument else 0) + refused.place + 1}"
+        lines = "\n".join(lines_from(text, refused.line))
+        argument = re.match(r"[ \t\r]*[^ \t\r\n]+[ \t\r\n]*", lines)
+        before = lines[: (argument.end() if argument else 0) + refused.place]
+        where = f"{file}:{refused.line + before.count(chr(10))}:{len(before) - before.rfind(chr(10))}"
     said, *shown = str(refused).split("\n")
     if refused.text:
         said = said.partition(" is refused: ")[2] or "refused"

@@ -445,11 +445,17 @@ class Explorations(OnProgram):
                 "choose x 2 -1",
                 "hint: a negative number needs brackets: write `(-1)`",
             ),
-            "client\nsubmit do {\n  writeTVar x 1\n}\n": (
+            "client\nsubmit do {\nwriteTVar x 1\n}\n": (
                 "line 4 of the script is refused: EndOfText",
                 "submit do {",
                 11 * " " + "^",
-                "hint: the `{` at 3 isn't closed; a block is on one line",
+                "hint: the `{` at 3 isn't closed; a block goes on in lines that are indented deeper, while a bracket or brace is open",
+            ),
+            "client\n  submit do {\n    -- a { note }\n\n    a <- readTVar x;\n    writeTVar x (a > 1)\n  }\n  finish 1\n": (
+                "line 4 of the script is refused: BadByte 64",
+                "line 8:     writeTVar x (a > 1)",
+                27 * " " + "^",
+                "hint: there is no `>`: write `1 < a`",
             ),
             "always do { a <- readTVar x; a == 0 }\nclient\n": (
                 "line 3 of the script is refused: Unexpected 24",

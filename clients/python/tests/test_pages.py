@@ -215,7 +215,7 @@ class Pages(OnProgram):
         public = [stmdesk, *(it for it in vars(stmdesk).values() if isinstance(it, (type, types.FunctionType)))]
         names = [it.__name__ if it is stmdesk else f"stmdesk.{it.__name__}" for it in public]
         names += ["stmdesk.aio", "stmdesk.aio.Desk", "stmdesk.aio.Batch", "stmdesk.Answer.result"]
-        names += [f"stmdesk.Exploration.{name}" for name in ("history", "trace")]
+        names += [f"stmdesk.Exploration.{name}" for name in ("history", "trace", "report")]
         for module, desk in (("stmdesk", Desk), ("stmdesk.aio", aio.Desk)):
             names += [f"{module}.Desk.{name}" for name in vars(desk) if not name.startswith("_") and name != "pid"]
         self.assertEqual([it for it in names if it not in tests or it != "stmdesk.DeskError" and not tests[it].examples], [])

@@ -6,6 +6,7 @@ import sys
 import tempfile
 
 from stmdesk import explore
+from stmdesk._lines import one_line
 from tests.common import HERE, REPOSITORY, SECONDS, OnProgram, library, needs_process, program
 
 FORKS = """\
@@ -165,6 +166,54 @@ class Reports(OnProgram):
         self.assertTrue(first[0].startswith("  at first: a_long_name_of_a_variable_0 = 0, ") and first[1].startswith("      a_long"))
 
 
+class Lines(OnProgram):
+    """Blocks on several lines, which the program reads as one."""
+
+    LAYED_OUT = """\
+tvar x : Int = 0
+always do {
+  a <- readTVar x;
+  return (a < 2)
+}
+client 2
+  submit do {
+    -- adds 1 } (
+    a <- readTVar x;
+
+    writeTVar x (
+      a + 1
+    )
+  }
+  finish 1
+"""
+
+    def test_what_is_joined(self):
+        plain = one_line(self.LAYED_OUT).split("\n")
+        self.assertEqual(len(plain), len(self.LAYED_OUT.split("\n")))
+        said = {at: " ".join(it.split()) for at, it in enumerate(plain, 1) if it}
+        block = "submit do { a <- readTVar x; writeTVar x ( a + 1 ) }"
+        self.assertEqual(said, {1: "tvar x : Int = 0", 2: "always do { a <- readTVar x; return (a < 2) }", 6: "client 2", 7: block, 15: "finish 1"})
+        for text in ("", "\n", "client\nsubmit retry\nfinish 1\n", "-- a { comment\n  client\n", "a {\nb\n", "  a {\n  b\n b }\n", "} )\n  a\n", "a (", "a (\n\n"):
+            self.assertEqual(one_line(text), text)
+        self.assertEqual(one_line("a (\n\n)\nb"), "a (  )\n\n\nb")
+        self.assertEqual(one_line("\ta {\r\n\t\tb\r\n}\r\nc"), "\ta {\r \t\tb\r }\r\n\n\nc")
+
+    def test_what_is_found(self):
+        found = explore(self.LAYED_OUT, **without_a_desk())
+        self.assertEqual((found.outcome, found.line, found.order), ("broken", 2, (0, 1)))
+        self.assertEqual([(it.line, it.text.endswith("writes #0=1")) for it in found.trace()[:1]], [(15, True)])
+        self.assertEqual(found.history().count("finished"), 2)
+        self.assertEqual(
+            found.report().split("\n")[1:5],
+            [
+                "  line 2: always do { a <- readTVar x; return (a < 2) }",
+                "  at first: x = 0",
+                "   1  client 0, line 15: do { a <- readTVar x; writeTVar x ( a + 1 ) }",
+                "          x: 0 -> 1",
+            ],
+        )
+
+
 @needs_process("a command")
 class Command(OnProgram):
     def ran(self, *words, text=None):
@@ -205,6 +254,15 @@ class Command(OnProgram):
         self.assertTrue(self.ran(text="client\nfrob\n").stderr.startswith("script:2: Command\n    frob\n    hint: no line "))
         ends = "script:1: the script is refused at its end, line 1: no client\n    hint: what a client does begins with a line `client`\n"
         self.assert_ran(self.ran(text=""), 1, "", ends)
+
+    def test_blocks_on_several_lines(self):
+        done = self.ran("--plain", text=Lines.LAYED_OUT)
+        self.assert_ran(done, 0, one_line(Lines.LAYED_OUT))
+        plain = subprocess.run([program, "explore", "--history"], input=done.stdout, capture_output=True, text=True, timeout=SECONDS)
+        self.assert_ran(self.ran("--history", text=Lines.LAYED_OUT), 3, plain.stdout)
+        wrong = self.ran(text=Lines.LAYED_OUT.replace("a + 1", "b + 1"))
+        said = "script:12:7: Unknown 69\n    line 12:       b + 1\n                   ^\n    hint: nothing of this name is declared; the names here are a, x\n"
+        self.assert_ran(wrong, 1, "", said)
 
     def test_as_a_module(self):
         command = [sys.executable, "-m", "stmdesk.report", "--program", program]
