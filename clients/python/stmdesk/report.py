@@ -11,6 +11,7 @@ import os
 import re
 import sys
 import textwrap
+import threading
 from collections.abc import Sequence
 from pathlib import Path
 
@@ -223,13 +224,27 @@ def main(words: Sequence[str], name: str) -> int:
     parser.add_argument("--program", metavar="PROGRAM", help="the program; without it that of find_program()")
     asked = parser.parse_args(words)
     try:
-        text = sys.stdin.read() if asked.script == "-" else Path(asked.script).read_text(encoding="utf-8", errors="surrogateescape")
+        return _main(asked, name)
+    except KeyboardInterrupt:
+        print(f"\n{name}: it was broken off", file=sys.stderr)
+        return 130
+    except BrokenPipeError:  # who reads the output has ended
+        os.dup2(os.open(os.devnull, os.O_WRONLY), sys.stdout.fileno())
+        return 1
+
+
+def _main(asked: argparse.Namespace, name: str) -> int:
+    try:
+        text = (sys.stdin.buffer.read() if asked.script == "-" else Path(asked.script).read_bytes()).decode("utf-8", "replace")
     except OSError as error:
         print(f"{name}: {asked.script}: {os.strerror(error.errno or 0)}", file=sys.stderr)
         return 1
     if asked.plain:
-        print(one_line(text), end="")
+        print(one_line(text), end="", flush=True)
         return 0
+    has_ended = threading.Event()
+    if sys.stderr.isatty():
+        threading.Thread(target=_say_progress, args=(name, has_ended), daemon=True).start()
     try:
         found = explore(
             text,
@@ -239,17 +254,31 @@ def main(words: Sequence[str], name: str) -> int:
             allow_throws=asked.allow_throws,
             progress=asked.progress,
         )
-        print((found.history() or "") if asked.history else report(found), end="")
+        said = (found.history() or "") if asked.history else report(found)
+        has_ended.set()
+        print(said, end="", flush=True)
     except ScriptRefused as refused:
         print(_refused("script" if asked.script == "-" else asked.script, text, refused), file=sys.stderr)
         return 1
     except Ended as ended:
         print(f"{name}: {ended}", file=sys.stderr)
         return ended.status if 0 < ended.status < 5 else 1
+    except BrokenPipeError:
+        raise
     except (DeskError, OSError) as error:
         print(f"{name}: {error}", file=sys.stderr)
         return 1
+    finally:
+        has_ended.set()
     return 0 if found else 3
+
+
+def _say_progress(name: str, has_ended: threading.Event) -> None:
+    """Says after 5, 10, 20 .. seconds that the search goes on, until it has ended."""
+    passed, after = 0, 5
+    while not has_ended.wait(after - passed):
+        print(f"{name}: still searching after {after} s", file=sys.stderr, flush=True)
+        passed, after = after, 2 * after
 
 
 def _refused(file: str, text: str, refused: ScriptRefused) -> str:

@@ -1,11 +1,16 @@
 """The reports of explorations, and the command that prints them."""
 
+import contextlib
+import io
+import os
 import pathlib
+import signal
 import subprocess
 import sys
 import tempfile
+import time
 
-from stmdesk import explore
+from stmdesk import explore, report
 from stmdesk._lines import one_line
 from tests.common import HERE, REPOSITORY, SECONDS, OnProgram, library, needs_process, program
 
@@ -263,6 +268,51 @@ class Command(OnProgram):
         wrong = self.ran(text=Lines.LAYED_OUT.replace("a + 1", "b + 1"))
         said = "script:12:7: Unknown 69\n    line 12:       b + 1\n                   ^\n    hint: nothing of this name is declared; the names here are a, x\n"
         self.assert_ran(wrong, 1, "", said)
+
+    def test_what_is_not_ascii(self):
+        with tempfile.TemporaryDirectory() as folder:
+            file = pathlib.Path(folder) / "script.stm"
+            file.write_bytes(b"tvar x : Int = 0\r\n-- \xc3\xa4 \xff\r\nclient\r\nsubmit writeTVar x 1\r\nfinish 1\r\n")
+            self.assertEqual(self.ran(file).returncode, 0)
+            file.write_bytes(b"client\nsubmit return \xc3\xa4\n")
+            done = self.ran(file)
+            self.assertEqual((done.returncode, done.stderr.split(":", 1)[1].split("\n")[0]), (1, "2: NotAscii"))
+
+    def test_it_is_broken_off(self):
+        slow = self.stand_in("echo begun >&2; exec sleep 1000")
+        command = [sys.executable, REPOSITORY / "tools" / "explore", "--program", slow]
+        with subprocess.Popen(command, stdin=subprocess.PIPE, stdout=subprocess.PIPE, stderr=subprocess.PIPE, text=True) as process:
+            process.stdin.write("client\n")
+            process.stdin.close()
+            while not pathlib.Path(f"/proc/{process.pid}/task/{process.pid}/children").read_text():
+                time.sleep(0.01)
+            process.send_signal(signal.SIGINT)
+            self.assertEqual((process.wait(SECONDS), process.stdout.read()), (130, ""))
+            self.assertEqual(process.stderr.read(), "\nexplore: it was broken off\n")
+
+    def test_nobody_reads(self):
+        command = f"{sys.executable} {REPOSITORY / 'tools' / 'explore'} --program {program} 2>&1 >&3 | cat"
+        read, write = os.pipe()
+        os.close(read)
+        try:
+            done = subprocess.run(["sh", "-c", f"exec 3>&{write}; {command}"], input=FORKS, capture_output=True, text=True, timeout=SECONDS, pass_fds=(write,))
+        finally:
+            os.close(write)
+        self.assertEqual((done.stdout, done.stderr), ("", ""))
+
+    def test_a_long_search(self):
+        waits = []
+
+        class Event:
+            def wait(self, seconds):
+                waits.append(seconds)
+                return len(waits) == 4
+
+        said = io.StringIO()
+        with contextlib.redirect_stderr(said):
+            report._say_progress("explore", Event())
+        self.assertEqual(waits, [5, 5, 10, 20])
+        self.assertEqual(said.getvalue(), "".join(f"explore: still searching after {it} s\n" for it in (5, 10, 20)))
 
     def test_as_a_module(self):
         command = [sys.executable, "-m", "stmdesk.report", "--program", program]
