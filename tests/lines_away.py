@@ -66,9 +66,23 @@ def judge(program, options, lines, number, reason):
     return f"status {done.returncode}: {done.stdout}{done.stderr}"
 
 
+def listed():
+    """None, or how the table of examples/explore/README.md differs from what the scripts print: each is there once, a fault with its name."""
+    cells = re.findall(r"\[(\w+)\]\((\w+)\.stm\)(?:: `([^`]+)`)?", (FOLDER / "README.md").read_text())
+    there = sorted((name, fault or "right") for name, path, fault in cells if name == path)
+    printed = []
+    for path in FOLDER.glob("*.stm"):
+        fault = FAULT.search(path.with_suffix(".out").read_text())
+        printed.append((path.stem, path.with_suffix(".out").read_text()[fault.start() :].split("\n")[0] if fault else "right"))
+    return None if there == sorted(printed) else f"{sorted(set(there) ^ set(printed))}"
+
+
 def judged(program, part):
-    """For each step of these scripts a name, and what is said of the script without it; and whether each reason is of a step of one. Only
-    what has the part in its name is run."""
+    """For each step of these scripts a name, and what is said of the script without it; and whether each reason is of a step of one. Before
+    them whether the table of the scripts has each. Only what has the part in its name is run."""
+    name = "explore: the table of examples/explore"
+    if part in name:
+        yield name, listed()
     steps = set()
     for path in right():
         lines = path.read_text().splitlines()
