@@ -15,9 +15,11 @@ import threading
 from collections.abc import Sequence
 from pathlib import Path
 
+from ._desk import Desk
 from ._errors import DeskError, Ended, ScriptRefused
 from ._explore import ClientAt, Exploration, TraceStep, explore
 from ._lines import lines_from, one_line
+from ._values import Commits, Throws
 
 WIDTH = 132  # of a list of variables
 MOST = 40  # variables that are shown if nothing happens to them
@@ -91,8 +93,9 @@ def report(found: Exploration) -> str:
     if found.order is None:
         lines += _counts(found, script)
     else:
-        lines += _at_line(found, script)
-        lines += _steps(found, script)
+        steps, last = found._traced()
+        lines += _at_line(found, script, last)
+        lines += _steps(steps, last, found, script)
         lines += _clients(found, script)
     return "\n".join(lines) + "\n"
 
@@ -113,23 +116,39 @@ def _shown(value: object) -> str:
     return "()" if value is None else str(value)
 
 
-def _at_line(found: Exploration, script: _Script) -> list[str]:
-    """The line of the fault, and what may be wrong with it if it is an invariant."""
+def _at_line(found: Exploration, script: _Script, last: str) -> list[str]:
+    """The line of the fault, what its block does on the last values, and what may be wrong with it if it is an invariant."""
     if found.line is None:
         return []
     word, block = script.parts(found.line - 1)
     lines = [f"  line {found.line}: {script.lines[found.line - 1]}"]
     if word == "finish":
         lines.append(f"      {script.block(found.line)}")
+    if found.outcome in ("broken", "failed", "threw") and (does := _does(found, script.block(found.line), last)):
+        lines.append(f"  after this order its block {does}")
     if word == "never" and found.outcome == "broken" and not re.search(r"\bretry\b", block):
         lines.append("  hint: the block of a `never` has to retry, and this one can't: of a condition that shouldn't hold write")
         lines.append("      never do { ..; if CONDITION then return () else retry }")
     return lines
 
 
-def _steps(found: Exploration, script: _Script) -> list[str]:
+def _does(found: Exploration, block: str, last: str) -> str:
+    """What a block does on a store, if that has only numbers, Bools and (): a desk with these variables tries it."""
+    cells = re.findall(r"(?m)^#\d+ (\S+) : (Int|Bool|\(\)) = (\S+)$", last)
+    if len(cells) != len(_CELL.findall(last)):
+        return ""
+    by = found._by
+    with Desk(by[0]) if isinstance(by, list) else Desk(local=True, library=by[0]) as desk:
+        for name, kind, value in cells:
+            desk.tvar(f"{name} : {kind} = {f'({value})' if value.startswith('-') else value}")
+        verdict = desk.try_(block)
+    if isinstance(verdict, Commits):
+        return f"returns {_shown(verdict.result)}"
+    return f"throws {verdict.fault}" if isinstance(verdict, Throws) else "retries"
+
+
+def _steps(steps: list[TraceStep], last: str, found: Exploration, script: _Script) -> list[str]:
     """The variables at first, each step with what it changed, and the variables at last."""
-    steps, last = found._traced()
     store = dict(enumerate(script.first))
     touched: set[int] = {it.number for client in found.clients for it in client.reads}
     first, lines = dict(store), list[str]()
@@ -164,7 +183,8 @@ def _step(step: TraceStep, script: _Script, store: dict[int, str], touched: set[
     for at, value in writes:
         before, store[at] = store.get(at, ""), script.named(value)
         touched.add(at)
-        lines.append(f"          {_variable(at, script)}: {before} -> {store[at]}" if before != store[at] else f"          {_variable(at, script)} stays {before}")
+        change = f" stays {before}" if before == store[at] else f": {before} -> {store[at]}"
+        lines.append(f"          {_variable(at, script)}{change}")
     lines += [f"          #{base + at} is new: {store[base + at]}" for at in range(len(made))]
     return lines if writes or made else [*lines, "          changes nothing"]
 
@@ -210,7 +230,8 @@ def main(words: Sequence[str], name: str) -> int:
         name,
         description="Explores the script in a file, as `stmdesk explore` does, and prints what was found with the names of the variables "
         "and the lines of the script: of a fault each step that leads there, and of an invalid line its place and a hint.",
-        epilog="Brackets and braces that are open in a line join it with those below it that are indented deeper. Exit statuses: 0 right, 1 a line of the script is invalid, or the file can't be read, 2 the words are wrong, 3 a fault or "
+        epilog="Brackets and braces that are open in a line join it with those below it that are indented deeper. Exit statuses: 0 right, 1 a "
+        "line of the script is invalid, or the file can't be read, 2 the words are wrong, 3 a fault or "
         "incomplete, 4 out of memory. The options are those of `stmdesk explore` (docs/EXPLORE.md).",
         allow_abbrev=False,
     )
@@ -220,7 +241,8 @@ def main(words: Sequence[str], name: str) -> int:
     parser.add_argument("--allow-throws", action="store_true", help="takes no throw of a block for a fault")
     parser.add_argument("--max-states", type=int, metavar="N", help="how many states may be kept; 1,000,000 if nothing is said")
     parser.add_argument("--history", action="store_true", help="prints the history of the fault instead, for check and tools/view")
-    parser.add_argument("--plain", action="store_true", help="explores nothing, and prints the script with each block on one line, as the program takes it")
+    plain = "explores nothing, and prints the script with each block on one line, as the program takes it"
+    parser.add_argument("--plain", action="store_true", help=plain)
     parser.add_argument("--program", metavar="PROGRAM", help="the program; without it that of find_program()")
     asked = parser.parse_args(words)
     try:

@@ -77,6 +77,7 @@ class Reports(OnProgram):
             script,
             "failed: the assertion of line 12 doesn't hold after this order",
             "  line 12: assert do { a <- readTVar n; return (a == 3) }",
+            "  after this order its block returns False",
             "  at first: n = -7, b = False",
             "   1  client 0, line 4: expect b False",
             "   2  client 0, line 5: chooses n = -1",
@@ -119,7 +120,8 @@ class Reports(OnProgram):
         script = "tvar x : Int = 0\nclient\nsubmit do { a <- readTVar x; if a == 1 then throw 5 else return () }\nsubmit writeTVar x 1\nfinish 2\nfinish 1\n"
         lines = self.report(script).split("\n")
         self.assertEqual(lines[0], "threw: after this order the block of the `finish` in line 6 throws, and no `throws` allows it")
-        self.assertEqual(lines[1:3], ["  line 6: finish 1", "      do { a <- readTVar x; if a == 1 then throw 5 else return () }"])
+        wanted = ["  line 6: finish 1", "      do { a <- readTVar x; if a == 1 then throw 5 else return () }", "  after this order its block throws 5"]
+        self.assertEqual(lines[1:4], wanted)
         self.assertEqual(lines[-3:], ["  client 0, line 6: can go on", "      do { a <- readTVar x; if a == 1 then throw 5 else return () }", ""])
         missed = self.report("tvar x : Int = 0\nclient\nexpect x 1\n").split("\n")
         self.assertEqual(missed[:2], ["missed: after this order the variable hasn't the value that line 3 expects", "  line 3: expect x 1"])
@@ -138,6 +140,21 @@ class Reports(OnProgram):
         never = "tvar x : Int = 0\nnever do {{ a <- readTVar x; {} }}\nclient\nsubmit writeTVar x 5\nfinish 1\n"
         for block, is_hinted in (("return (a == 5)", True), ("if a == 5 then return () else retry", False)):
             self.assertEqual("hint: the block of a `never` has to retry" in self.report(never.format(block)), is_hinted)
+
+    def test_what_the_block_of_an_invariant_does(self):
+        always = "tvar x : Int = 0\ntvar u : () = ()\ntvar b : Bool = True\nalways do {{ a <- readTVar x; {} }}\nclient\nsubmit writeTVar x (-5)\nfinish 1\n"
+        cases = {
+            "return (a == 0)": "returns False",
+            "return a": "returns 0",  # in the first state
+            "if a == 0 then return True else return False": "returns False",
+            "if a == 0 then return True else retry": "retries",
+            "if a == 0 then return True else throw a": "throws -5",
+            "if a == 0 then return True else return (a * 9223372036854775807 == 0)": "throws overflow",
+        }
+        for block, does in cases.items():
+            self.assertIn(f"}}\n  after this order its block {does}\n  at first: x = 0, u = (), b = True\n", self.report(always.format(block)))
+        with_reference = self.report("tvar x : Int = 0\ntvar r : TVar Int = x\nalways do { a <- readTVar x; return (a == 1) }\nclient\n")
+        self.assertNotIn("its block", with_reference)
 
     def test_right(self):
         script = "tvar x : Int = 0\nclient\nchoose x 1 2\nsubmit retry\n"
@@ -209,9 +226,10 @@ client 2
         self.assertEqual([(it.line, it.text.endswith("writes #0=1")) for it in found.trace()[:1]], [(15, True)])
         self.assertEqual(found.history().count("finished"), 2)
         self.assertEqual(
-            found.report().split("\n")[1:5],
+            found.report().split("\n")[1:6],
             [
                 "  line 2: always do { a <- readTVar x; return (a < 2) }",
+                "  after this order its block returns False",
                 "  at first: x = 0",
                 "   1  client 0, line 15: do { a <- readTVar x; writeTVar x ( a + 1 ) }",
                 "          x: 0 -> 1",
