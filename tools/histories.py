@@ -82,7 +82,8 @@ def head(found: Iterator[tuple[int, Object]]) -> Head:
     is_checkpoint = kind == 4 or kind == 5 and "next" in header
     counts = (kind, header.get("vars"), header.get("waiting") if is_checkpoint else 0)
     if not all(type(it) is int and it >= 0 for it in counts) or kind not in (1, 2, 3, 4, 5):
-        raise NotDrawn(f"this is no history of format 1 to 5; {JUDGE}")
+        why = "" if header else ": no line begins with a brace (`explore --history` prints none if it finds no fault)"
+        raise NotDrawn(f"this is no history of format 1 to 5{why}; {JUDGE}")
     variables = taken(found, header["vars"], "name", "variable", need_variable)
     waiting = taken(found, header["waiting"], "ticket", "waiting block", need_waiting) if is_checkpoint else []
     return Head(kind, variables, waiting, is_checkpoint)

@@ -276,9 +276,11 @@ def _main(asked: argparse.Namespace, name: str) -> int:
             allow_throws=asked.allow_throws,
             progress=asked.progress,
         )
-        said = (found.history() or "") if asked.history else report(found)
+        said = found.history() if asked.history else report(found)
         has_ended.set()
-        print(said, end="", flush=True)
+        if said is None:
+            print(f"{name}: {found.outcome}: there is no history of a fault", file=sys.stderr)
+        print(said or "", end="", flush=True)
     except ScriptRefused as refused:
         print(_refused("script" if asked.script == "-" else asked.script, text, refused), file=sys.stderr)
         return 1

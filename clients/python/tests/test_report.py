@@ -283,6 +283,7 @@ class Command(OnProgram):
         self.assert_ran(done, 0, one_line(Lines.LAYED_OUT))
         plain = subprocess.run([program, "explore", "--history"], input=done.stdout, capture_output=True, text=True, timeout=SECONDS)
         self.assert_ran(self.ran("--history", text=Lines.LAYED_OUT), 3, plain.stdout)
+        self.assert_ran(self.ran("--history", text="client\n"), 0, "", "explore: right: there is no history of a fault\n")
         wrong = self.ran(text=Lines.LAYED_OUT.replace("a + 1", "b + 1"))
         said = "script:12:7: Unknown 69\n    line 12:       b + 1\n                   ^\n    hint: nothing of this name is declared; the names here are a, x\n"
         self.assert_ran(wrong, 1, "", said)
