@@ -12,7 +12,7 @@ from ._answers import Answers
 from ._commands import decimal
 from ._errors import BadAnswer, Ended, ScriptRefused
 from ._hints import script_hint
-from ._lines import joined, lines_from, one_line
+from ._lines import in_places, joined, lines_from
 from ._local import File
 from ._program import check_built, find_program, run_once
 from ._stateless import MAX_STATES, STATES, explore_once, library_of
@@ -305,10 +305,13 @@ def _explored(
     by: list[str] | tuple[str, int, bool, bool, bool], script: str, more: Literal["", "history", "trace"] = ""
 ) -> tuple[int, str, str]:
     """The exit status of an exploration, and what it writes to the two outputs, with `more` the history or the trace of a fault."""
-    script = one_line(script)
-    if isinstance(by, list):
-        return run_once([*by, f"--{more}"] if more else by, script)
-    return explore_once(*by, script, more)
+
+    def ran(text: str) -> tuple[int, str, str]:
+        if isinstance(by, list):
+            return run_once([*by, f"--{more}"] if more else by, text)
+        return explore_once(*by, text, more)
+
+    return in_places(script, ran)
 
 
 def _read(printed: str, said: str, script: str, by: list[str] | tuple[str, int, bool, bool, bool]) -> Exploration:

@@ -2,13 +2,14 @@
 
 from __future__ import annotations
 
-from collections.abc import Iterator
+from collections.abc import Callable, Iterator
 
 _BLANKS = " \t\r"
 
 
-def one_line(script: str) -> str:
-    """The script with each block on one line, as the program takes it, and with as many lines: those that were joined are empty.
+def one_line(script: str, *, keeps_places: bool = False) -> str:
+    """The script with each block on one line, as the program takes it, and with as many lines: those that were joined are empty. With
+    `keeps_places` each byte of a block has the distance from its first one that it has in the script, else one blank is left between words.
 
     A line in which brackets or braces are open goes on in the lines below it that are indented deeper, or begin with a closing one. Among
     these, an empty line and one that begins with `--` after its indent say nothing.
@@ -16,9 +17,17 @@ def one_line(script: str) -> str:
     lines = script.split("\n")
     found: list[str] = []
     for begin, end in _spans(lines):
-        found.append(joined(lines[begin:end]))
+        line = joined(lines[begin:end])
+        found.append(line if keeps_places or end - begin == 1 else " ".join(line.split()))
         found += [""] * (end - begin - 1)
     return "\n".join(found)
+
+
+def in_places(script: str, ran: Callable[[str], tuple[int, str, str]]) -> tuple[int, str, str]:
+    """The status of a run on a script with each block on one line, and its two outputs. If a line is refused, with its place in the script."""
+    plain, placed = one_line(script), one_line(script, keeps_places=True)
+    found = ran(plain)
+    return ran(placed) if found[0] == 1 and plain != placed else found
 
 
 def joined(lines: list[str]) -> str:

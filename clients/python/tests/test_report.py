@@ -210,20 +210,24 @@ client 2
 """
 
     def test_what_is_joined(self):
-        plain = one_line(self.LAYED_OUT).split("\n")
+        plain, placed = one_line(self.LAYED_OUT).split("\n"), one_line(self.LAYED_OUT, keeps_places=True).split("\n")
         self.assertEqual(len(plain), len(self.LAYED_OUT.split("\n")))
-        said = {at: " ".join(it.split()) for at, it in enumerate(plain, 1) if it}
+        self.assertEqual([it.split() for it in plain], [it.split() for it in placed])
         block = "submit do { a <- readTVar x; writeTVar x ( a + 1 ) }"
-        self.assertEqual(said, {1: "tvar x : Int = 0", 2: "always do { a <- readTVar x; return (a < 2) }", 6: "client 2", 7: block, 15: "finish 1"})
+        said = {1: "tvar x : Int = 0", 2: "always do { a <- readTVar x; return (a < 2) }", 6: "client 2", 7: block, 15: "  finish 1"}
+        self.assertEqual({at: it for at, it in enumerate(plain, 1) if it}, said)
+        lines = self.LAYED_OUT.split("\n")
+        self.assertEqual(placed[6], "\n".join(lines[6:14]).replace("-- adds 1 } (", " " * 13).replace("\n", " "))
         for text in ("", "\n", "client\nsubmit retry\nfinish 1\n", "-- a { comment\n  client\n", "a {\nb\n", "  a {\n  b\n b }\n", "} )\n  a\n", "a (", "a (\n\n"):
             self.assertEqual(one_line(text), text)
-        self.assertEqual(one_line("a (\n\n)\nb"), "a (  )\n\n\nb")
-        self.assertEqual(one_line("\ta {\r\n\t\tb\r\n}\r\nc"), "\ta {\r \t\tb\r }\r\n\n\nc")
+        for text, plain, placed in (("a (\n\n)\nb", "a ( )\n\n\nb", "a (  )\n\n\nb"), ("\ta {\r\n\t\tb\r\n}\r\nc", "a { b }\n\n\nc", "\ta {\r \t\tb\r }\r\n\n\nc")):
+            self.assertEqual((one_line(text), one_line(text, keeps_places=True)), (plain, placed))
 
     def test_what_is_found(self):
         found = explore(self.LAYED_OUT, **without_a_desk())
         self.assertEqual((found.outcome, found.line, found.order), ("broken", 2, (0, 1)))
         self.assertEqual([(it.line, it.text.endswith("writes #0=1")) for it in found.trace()[:1]], [(15, True)])
+        self.assertEqual(found.trace()[0].text, "do { a <- readTVar x; writeTVar x ( a + 1 ) } writes #0=1")
         self.assertEqual(found.history().count("finished"), 2)
         self.assertEqual(
             found.report().split("\n")[1:6],
