@@ -194,8 +194,9 @@ def _variable(number: int, script: _Script) -> str:
 
 
 def _variables(head: str, store: dict[int, str], touched: set[int], script: _Script) -> list[str]:
-    """The variables with their values on lines of at most WIDTH columns; if there are more than MOST, those that are touched alone."""
-    shown = [at for at in store if at in touched or len(store) <= MOST]
+    """The variables with their values on lines of at most WIDTH columns; if there are more than MOST, those that are touched alone, or
+    the first if none is."""
+    shown = [at for at in store if at in touched or len(store) <= MOST] or [*store][:MOST]
     if not shown:
         return []
     text = ", ".join(f"{_variable(at, script)} = {script.named(store[at])}" for at in shown)

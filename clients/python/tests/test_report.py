@@ -182,6 +182,8 @@ class Reports(OnProgram):
         lines = self.report(script).split("\n")
         self.assertEqual(lines[1], "  at first: v7 = 7, v9 = 9, and 98 more")
         self.assertEqual(lines[4], "  at last: v7 = 1, v9 = 9, and 98 more")
+        ended = self.report("".join(f"tvar v{at} : Int = {at}\n" for at in range(100)) + "client\n").split("\n")
+        self.assertTrue(ended[2].startswith("  at an end: v0 = 0, v1 = 1, ") and ended[-2].endswith(" v39 = 39, and 60 more"))
         wide = "".join(f"tvar a_long_name_of_a_variable_{at} : Int = {at}\n" for at in range(9)) + "client\nsubmit retry\nfinish 1\n"
         first = self.report(wide).split("\n")[1:4]
         self.assertTrue(all(len(it) <= 132 for it in first))
