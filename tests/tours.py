@@ -1,5 +1,6 @@
 """The tours of the documents: what they say that the program prints (tests/README.md)."""
 
+import os
 import pathlib
 import subprocess
 import tempfile
@@ -56,6 +57,7 @@ def judge(program, command, lines, folder=None):
         stdout=subprocess.PIPE,
         stderr=subprocess.STDOUT,
         timeout=transcript.SECONDS,
+        env=os.environ | {"STMDESK": str(program)},  # for tools that run the program
     )
     return None if done.stdout == case.printed else transcript.shown(case, done.stdout)
 

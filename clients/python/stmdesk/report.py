@@ -19,6 +19,7 @@ from ._desk import Desk
 from ._errors import DeskError, Ended, ScriptRefused
 from ._explore import ClientAt, Exploration, TraceStep, explore
 from ._lines import lines_from, one_line
+from ._program import run_once
 from ._values import Commits, Throws
 
 WIDTH = 132  # of a list of variables
@@ -28,6 +29,7 @@ _INIT = re.compile(r"[a-z][A-Za-z0-9_']*\s*:[^=]*=\s*(.+)")
 _NAME = re.compile(r"[a-z][A-Za-z0-9_']*")
 _NUMBER = re.compile(r"#(\d+)")
 _DID = re.compile(r"(?:^|.* )(?:writes (?P<writes>none|#\d+=.*?)(?: news (?P<news>.+))?|throws (?P<fault>\S+))$")
+_VERDICT = re.compile(r"commits .* result (\S+)|throws (\S+)|blocks")
 _CELL = re.compile(r"(?m)^#(\d+) (?:\S+ )?: .+ = (\S+)$")
 
 _OUTCOMES = {
@@ -133,18 +135,26 @@ def _at_line(found: Exploration, script: _Script, last: str) -> list[str]:
 
 
 def _does(found: Exploration, block: str, last: str) -> str:
-    """What a block does on a store, if that has only numbers, Bools and (): a desk with these variables tries it."""
+    """What a block does on a store, if that has only numbers, Bools and (): `try` of a desk with these variables. The program gets all its
+    input at once."""
     cells = re.findall(r"(?m)^#\d+ (\S+) : (Int|Bool|\(\)) = (\S+)$", last)
     if len(cells) != len(_CELL.findall(last)):
         return ""
+    declared = [f"{name} : {kind} = {f'({value})' if value.startswith('-') else value}" for name, kind, value in cells]
     by = found._by
-    with Desk(by[0]) if isinstance(by, list) else Desk(local=True, library=by[0]) as desk:
-        for name, kind, value in cells:
-            desk.tvar(f"{name} : {kind} = {f'({value})' if value.startswith('-') else value}")
-        verdict = desk.try_(block)
-    if isinstance(verdict, Commits):
-        return f"returns {_shown(verdict.result)}"
-    return f"throws {verdict.fault}" if isinstance(verdict, Throws) else "retries"
+    if isinstance(by, list):
+        said = run_once([by[0], "run"], "".join(f"tvar {it}\n" for it in declared) + f"try {block}\n")[1].split("\n")[-2:-1]
+        verdict = _VERDICT.fullmatch("".join(said))
+        if not verdict:
+            return ""
+        return f"returns {verdict[1]}" if verdict[1] else f"throws {verdict[2]}" if verdict[2] else "retries"
+    with Desk(local=True, library=by[0]) as desk:
+        for it in declared:
+            desk.tvar(it)
+        tried = desk.try_(block)
+    if isinstance(tried, Commits):
+        return f"returns {_shown(tried.result)}"
+    return f"throws {tried.fault}" if isinstance(tried, Throws) else "retries"
 
 
 def _steps(steps: list[TraceStep], last: str, found: Exploration, script: _Script) -> list[str]:
