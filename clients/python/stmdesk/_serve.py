@@ -3,11 +3,13 @@
 from __future__ import annotations
 
 import asyncio
+import errno
 import fcntl
 import logging
 import os
 import shutil
 import socket
+import stat
 import sys
 import time
 from collections import Counter, deque
@@ -23,6 +25,7 @@ GROUP = 1 << 18  # weight of a group, after which no further request is taken in
 AHEAD = 1 << 16  # lines of a plain connection that are read and not given
 ACKS = 5000  # ranges of numbers that one request acknowledges at most
 STOPPING = 2.0  # seconds that connections have to read their last answers
+PATH_LENGTH = 107  # bytes of the path of a unix socket
 FIRST_TRIES = (0.1, 0.2, 0.5, 1.0, 2.0)  # seconds between tries to start on a journal that is in use
 
 log = logging.getLogger("stmdesk.server")
@@ -261,6 +264,7 @@ class Server:
         self.on_group: list[Callable[[], None]] = []
         self._noted, self._unnoted = 0.0, 0
         self._locked = -1
+        self._own: tuple[int, int] | None = None  # which file the socket is that this server has made
         self._listener: asyncio.Server | None = None
 
     # What replicas do otherwise.
@@ -306,12 +310,20 @@ class Server:
         self._noted, self._unnoted = now, 0
 
     def lock_path(self) -> None:
-        """So that no two servers have one socket: asyncio removes a socket that is there, another server's too. Raises OSError."""
+        """So that no two servers have one socket: asyncio removes a socket that is there, another server's too. Raises OSError, also if
+        what is there isn't a socket that a killed server has left."""
+        check_path(self.path)
         self._locked = os.open(f"{self.path}.lock", os.O_CREAT | os.O_RDWR | os.O_CLOEXEC, 0o600)
         try:
             fcntl.flock(self._locked, fcntl.LOCK_EX | fcntl.LOCK_NB)
-        except BlockingIOError:
-            raise OSError(f"{self.path}: another server has this socket") from None
+            if is_listened_on(self.path):
+                raise OSError(f"{self.path}: another program listens on this socket")
+        except OSError as error:
+            os.close(self._locked)
+            self._locked = -1
+            if isinstance(error, BlockingIOError):
+                raise OSError(f"{self.path}: another server has this socket") from None
+            raise
 
     async def listen(self, given: socket.socket | None = None) -> None:
         """Listens on the path, or on a socket that the service manager has opened."""
@@ -326,6 +338,7 @@ class Server:
             self._listener = await asyncio.start_unix_server(self.connected, self.path, **more)
         finally:
             os.umask(before)
+        self._own = identity(self.path)
         if self.group is not None:
             shutil.chown(self.path, group=self.group)
         os.chmod(self.path, self.mode)
@@ -440,6 +453,7 @@ class Server:
 
     async def start(self, program: str, options: Sequence[str], *, journal: str | None, declare: str | None) -> None:
         """Starts the program, and declares what the file says if the desk is new. Raises `Ended` if the program doesn't start."""
+        was_free = False
         for pause in (*FIRST_TRIES, None):
             console = await Console(program, options).start()
             try:
@@ -448,7 +462,12 @@ class Server:
             except Ended:
                 if await console.close() != 1 or journal is None or pause is None:
                     raise
-                # A desk whose server was killed has the journal until it has gone through the rest of its input.
+                # A desk whose server was killed has the journal until it has gone through the rest of its input. If nobody has it now, that
+                # may have ended just before; a second time it is something else, of which the program has said what.
+                if not is_locked(journal):
+                    if was_free:
+                        raise
+                    was_free = True
                 log.info("trying again to start on %s", journal)
                 await asyncio.sleep(pause)
         try:
@@ -499,9 +518,53 @@ class Server:
         """Removes the socket, if it is this server's."""
         if self._locked >= 0:
             with suppress(OSError):
-                os.unlink(self.path)
+                if self._own and identity(self.path) == self._own:
+                    os.unlink(self.path)
             os.close(self._locked)
             self._locked = -1
+
+
+def check_path(path: str) -> None:
+    """Raises OSError if no socket can be made at the path, since it is too long or a file is there."""
+    if len(os.fsencode(path)) > PATH_LENGTH:
+        raise OSError(f"{path}: the path of a socket has at most {PATH_LENGTH} bytes")
+    with suppress(FileNotFoundError):
+        if not stat.S_ISSOCK(os.stat(path).st_mode):
+            raise OSError(f"{path}: a file is there that is no socket")
+
+
+def is_listened_on(path: str) -> bool:
+    """Whether a program listens on the socket at the path. Nobody listens on one that a killed server has left."""
+    with socket.socket(socket.AF_UNIX, socket.SOCK_STREAM) as it:
+        it.setblocking(False)  # it would wait if as many wait already as the program lets wait
+        try:
+            it.connect(path)
+        except BlockingIOError:
+            return True
+        except OSError as error:
+            return error.errno == errno.EPROTOTYPE  # a socket of another kind
+        return True
+
+
+def identity(path: str) -> tuple[int, int]:
+    """Which file this is. Raises OSError."""
+    found = os.lstat(path)
+    return found.st_dev, found.st_ino
+
+
+def is_locked(path: str) -> bool:
+    """Whether a process has locked the file."""
+    try:
+        file = os.open(path, os.O_RDONLY | os.O_NONBLOCK | os.O_CLOEXEC)
+    except OSError:
+        return False
+    try:
+        fcntl.flock(file, fcntl.LOCK_SH | fcntl.LOCK_NB)
+    except OSError as error:
+        return isinstance(error, BlockingIOError)
+    finally:
+        os.close(file)
+    return False
 
 
 async def declarations(program: str, path: str) -> list[Item]:
