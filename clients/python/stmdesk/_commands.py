@@ -41,7 +41,10 @@ class Command(Generic[T]):
 
     def sent(self, text: str) -> bytes:
         """What is sent. Raises ValueError if the argument has a control character, and TypeError if it is no text."""
-        line = text if str.isprintable(text) else _in_one_line(text)
+        try:
+            line = text if str.isprintable(text) else _in_one_line(text)
+        except TypeError:
+            raise TypeError(f"{self.word} takes a text, and not {text!r}") from None
         return f"{self.word} {line}\n".encode() if text else self.bare
 
     @cached_property

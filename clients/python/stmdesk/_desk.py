@@ -24,7 +24,7 @@ from ._local import begin_local
 from ._program import Process, check_built, find_program, is_ours
 from ._transport import Closed, Odd, Transport, AtomicBlocks
 from ._values import Commits, Entry, Events, Finished, FinishedThrows, Job, Reason, Ref, Settled, Status, Store, Value, Verdict, Waiting
-from ._waits import Wait
+from ._waits import Wait, checked_timeout
 
 PATIENCE = 5.0  # seconds that the program has to end after its input has ended
 FEW = 8  # commands that are sent in one go whatever their length
@@ -562,6 +562,8 @@ class Desk:
             raise transport.not_owner()
         if self._caller == get_ident():
             raise RuntimeError("a signal handler called the desk in the midst of another call")
+        if timeout is not None:
+            checked_timeout(timeout)
         wait = Wait(block, None if label is None else checked_label(label))
         waits: AtomicBlocks | None = None
         if not transport.keeps_answers:

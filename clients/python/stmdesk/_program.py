@@ -9,6 +9,7 @@ import signal
 import subprocess
 import tempfile
 import threading
+import weakref
 from collections import deque
 from collections.abc import Sequence
 from contextlib import suppress
@@ -116,6 +117,11 @@ def is_ours(error: BaseException) -> bool:
     return trace is not None and trace.tb_frame.f_globals.get("__package__") == __package__
 
 
+def _close(file: Any) -> None:
+    with suppress(OSError):
+        file.close()
+
+
 class Process(OwnTransport):
     """The running program, with pipes to its standard input and output."""
 
@@ -145,6 +151,8 @@ class Process(OwnTransport):
         assert isinstance(self._process.stdin, BufferedWriter) and isinstance(self._process.stdout, BufferedReader)
         self._input, self._output = self._process.stdin.raw, self._process.stdout
         os.set_blocking(self._input.fileno(), False)
+        # If nobody closes the desk, its end is that of the program's input, as with a file that nobody closes.
+        weakref.finalize(self, _close, self._input).atexit = False
         super().__init__()
 
     def descriptors(self) -> list[int]:

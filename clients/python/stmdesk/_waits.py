@@ -22,6 +22,19 @@ from ._values import Finished, FinishedThrows, Value, Waiting
 SIGNALS = 1.0  # seconds after which the main thread looks for a signal that it has missed
 
 
+def checked_timeout(timeout: float) -> float:
+    """The timeout. Raises ValueError or TypeError if it is no number of seconds."""
+    try:
+        is_number = not math.isnan(timeout)
+    except OverflowError:  # an `int` that no `float` holds
+        is_number = True
+    except TypeError:
+        raise TypeError(f"a timeout is a number of seconds, and not {timeout!r}") from None
+    if not is_number:
+        raise ValueError(f"a timeout is a number of seconds, and not {timeout!r}")
+    return timeout
+
+
 class Wait:
     """A block that a caller gave to `atomically`, until its outcome is there: a result or an error."""
 

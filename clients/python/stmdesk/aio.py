@@ -31,7 +31,7 @@ from ._errors import Cancelled, DeskClosed, DeskError, JournalError, TimedOut
 from ._program import Process
 from ._commands import checked_label
 from ._values import Entry, Events, Finished, FinishedThrows, Job, Reason, Ref, Settled, Status, Store, Value, Verdict, Waiting
-from ._waits import Wait
+from ._waits import Wait, checked_timeout
 
 T = TypeVar("T")
 
@@ -341,6 +341,8 @@ class Desk:
         >>> run(desk.atomically("do { a <- readTVar x; writeTVar x (a + 1); return a }"))
         1
         """
+        if timeout is not None:
+            checked_timeout(timeout)
         loop = asyncio.get_running_loop()
         over: asyncio.Future[None] = loop.create_future()
         wait = Wait(block, None if label is None else checked_label(label), lambda: _tell(loop, over, None, None))

@@ -111,6 +111,15 @@ class Asynchronous(OnProgram):
 
         self.run_on_desk(main)
 
+    def test_a_timeout_that_is_no_number(self):
+        async def main(desk):
+            for wrong, kind in ((float("nan"), ValueError), ("1", TypeError)):
+                with self.assertRaisesRegex(kind, "^a timeout is a number of seconds, and not "):
+                    await desk.atomically("writeTVar x 5", timeout=wrong)
+            self.assertEqual((await desk.value("x"), (await desk.events()).next), (1, 1))  # nothing was sent
+
+        self.run_on_desk(main)
+
     def test_a_task_that_is_cancelled(self):
         async def main(desk):
             task = asyncio.create_task(desk.atomically("retry"))

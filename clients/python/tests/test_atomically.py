@@ -208,6 +208,13 @@ class Atomically(InThreads):
         with self.assertRaises(stmdesk.Thrown):
             desk.atomically("throw 1", timeout=0)
 
+    def test_a_timeout_that_is_no_number(self):
+        desk = self.start()
+        for wrong, kind in ((float("nan"), ValueError), ("1", TypeError), (b"1", TypeError), ([], TypeError)):
+            with self.subTest(timeout=wrong), self.assertRaisesRegex(kind, "^a timeout is a number of seconds, and not "):
+                desk.atomically("writeTVar x 5", timeout=wrong)
+        self.assertEqual((desk.value("x"), desk.events().next), (1, 1))  # nothing was sent
+
     def test_timeouts_of_many_threads(self):
         desk = self.start()
         for error in in_threads(8, lambda: desk.atomically("do { a <- readTVar x; retry }", timeout=0.001)):

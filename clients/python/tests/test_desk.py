@@ -326,6 +326,8 @@ class Lines(OnProgram):
             for wrong in (b"retry", 1, None):
                 with self.assertRaises(TypeError):
                     call(wrong)
+        with self.assertRaisesRegex(TypeError, r"^submit takes a text, and not Ref\(0, 'x'\)$"):
+            desk.submit(X)
         self.assert_is(desk.submit("retry"), 1)
 
     def test_blanks_in_an_argument_change_nothing(self):

@@ -1,14 +1,16 @@
 """The process of a desk: how it ends, and answers without end."""
 
 import concurrent.futures
+import gc
 import os
 import pathlib
 import signal
 import threading
 import time
+import warnings
 from unittest import mock
 
-from stmdesk import BadAnswer, Desk, Ended, Refused, _commands, _helper
+from stmdesk import BadAnswer, Desk, Ended, Refused, TimedOut, _commands, _helper
 from tests.common import HERE, OnProgram, needs_process, new_desk
 
 
@@ -39,6 +41,22 @@ class Ends(OnProgram):
         with self.assertRaises(Refused), new_desk() as desk:
             desk.finish(1)
         self.assert_gone(desk.pid)
+
+    @needs_process("the program ends")
+    def test_a_desk_that_nobody_refers_to(self):
+        for blocks in ([], ["retry"]):  # the second has a thread of the desk's own
+            desk = new_desk()
+            for it in blocks:
+                with self.assertRaises(TimedOut):
+                    desk.atomically(it, timeout=0)
+            desk.store()
+            state = pathlib.Path(f"/proc/{desk.pid}/stat")
+            with warnings.catch_warnings():
+                warnings.simplefilter("ignore", ResourceWarning)
+                del desk
+                gc.collect()
+            while state.exists() and state.read_text().split()[2] != "Z":  # Python waits for it when it starts the next process
+                time.sleep(0.01)
 
     @needs_process("the program is killed")
     def test_a_program_that_is_killed(self):
