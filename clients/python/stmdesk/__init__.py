@@ -15,6 +15,8 @@ A value of the language is a value of Python: a number is an `int`, `True` and `
 type if a block could return either. docs/CONSOLE.md says what each command does, and docs/LANGUAGE.md what a block is. A line
 feed in a block is a blank.
 
+A block is a text: `do` makes one of its steps, `literal` writes a value, and `or_else` gives alternatives.
+
 `Desk.atomically` runs a block and waits while it retries; `Desk.batch` gives many commands in one go; `Desk.ready` says which
 tickets can be finished, `Desk.why` what one waits for, `Desk.board` who waits for what, and `Desk.events` what has happened since; `Desk(journal=PATH)` keeps
 the history in a file, and goes on from there at the next start; `Desk.checkpoint` lets the events so far go; `stmdesk.aio` is the same for asyncio. `explore` needs no desk:
@@ -31,8 +33,10 @@ takes the call, and `OutcomeUnknown` if its answer didn't come.
 `OutOfMemory`.
 """
 
+from typing import TYPE_CHECKING
+
 from ._batch import Batch
-from ._blocks import or_else
+from ._blocks import do, literal, or_else
 from ._check import Checked, Finding, check
 from ._commands import Answer
 from ._connect import connect
@@ -58,12 +62,28 @@ __all__ = [
     "FinalStore", "Finding",
     "Finish", "Finished", "FinishedThrows", "Job", "JournalError", "Labelling", "LineWarning", "New", "NewRef", "OutOfMemory", "Outcome", "OutcomeUnknown", "Ready", "Reason",
     "Ref", "Refused", "ScriptRefused", "Settled", "Stale", "StaleBefore", "StaleBy", "Status", "Stopped", "Store", "Submission", "Thrown", "Throws",
-    "TimedOut", "TraceStep", "Value", "Verdict", "Waiting", "Waits", "check", "connect", "explore", "find_library", "find_program",
-    "or_else",
+    "TimedOut", "TraceStep", "Value", "Verdict", "Waiting", "Waits", "check", "connect", "do", "explore", "find_library",
+    "find_program", "literal", "or_else",
 ]  # fmt: skip
 
 for _name in __all__:
     _it = globals()[_name]
-    if isinstance(_it, type) or _it in (check, connect, explore, find_library, find_program, or_else):
+    if isinstance(_it, type) or _it in (check, connect, do, explore, find_library, find_program, literal, or_else):
         _it.__module__ = __name__  # so that a traceback says stmdesk.Refused, which can be imported
 del _it, _name
+
+if not TYPE_CHECKING:  # else every name would be one of the package
+
+    def __getattr__(name: str) -> object:
+        """`stmdesk.aio` after `import stmdesk` alone, which doesn't import asyncio.
+
+        >>> import stmdesk
+        >>> stmdesk.aio.Desk
+        <class 'stmdesk.aio.Desk'>
+        """
+        if name != "aio":
+            raise AttributeError(f"module {__name__!r} has no attribute {name!r}")
+        from importlib import import_module
+
+        return import_module(".aio", __name__)
+

@@ -1,10 +1,27 @@
-"""`python -m stmdesk serve ..` is `python -m stmdesk.server ..`."""
+"""`python -m stmdesk serve ..` is `python -m stmdesk.server ..`; with other words it is the program."""
 
+import os
 import sys
 
+from ._program import find_program
 from .server import main
 
+USAGE = """python -m stmdesk serve [OPTIONS] SOCKET runs a server (docs/SERVER.md)
+python -m stmdesk WORDS runs the program that `Desk()` runs: run, explore, storm and check read standard input, --help says more"""
+
+
+def run(words: list[str]) -> None:
+    """Runs the program in place of this process."""
+    try:
+        program = find_program()
+        os.execv(program, [program, *words])
+    except OSError as error:
+        sys.exit(f"stmdesk: {error}")
+
+
 if __name__ == "__main__":
-    if sys.argv[1:2] != ["serve"]:
-        sys.exit("python -m stmdesk serve [OPTIONS] SOCKET runs a server (docs/SERVER.md); the program is find_program()")
+    if not sys.argv[1:]:
+        sys.exit(USAGE)
+    if sys.argv[1] != "serve":
+        run(sys.argv[1:])
     sys.exit(main(sys.argv[2:]))

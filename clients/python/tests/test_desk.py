@@ -422,5 +422,41 @@ class Choices(OnProgram):
             self.assert_is(desk.try_(stmdesk.or_else(*blocks, "retry")), Blocks())
             order = [f"return {number}" for number in range(count)]
             self.assert_is(desk.try_(stmdesk.or_else(*order)), Commits({}, [], 0))
-        with self.assertRaises(ValueError):
+        with self.assertRaisesRegex(ValueError, "needs a block"):
             stmdesk.or_else()
+
+    def test_steps(self):
+        desk = self.start()
+        take = stmdesk.do("a <- readTVar x", "if a == 0 then retry else writeTVar x 0", "return a")
+        self.assertEqual(take, "do { a <- readTVar x; if a == 0 then retry else writeTVar x 0; return a }")
+        self.assert_is(desk.atomically(take), 1)
+        self.assert_is(desk.try_(take), Blocks())
+        self.assert_is(desk.try_(stmdesk.do("retry")), Blocks())
+        inner = stmdesk.do("let b = 2", "return b")
+        self.assert_is(desk.try_(stmdesk.do(f"a <- {inner}", f"b <- {stmdesk.or_else('retry', inner)}", "return (a + b)")), Commits({}, [], 4))
+        with self.assertRaisesRegex(ValueError, "needs a step"):
+            stmdesk.do()
+
+    def test_literals(self):
+        """Each value is written and comes back, in a block and in a declaration."""
+        desk = self.start()
+        desk.tvar("flag : Bool = False")
+        desk.tvar("unit : () = ()")
+        desk.tvar("slot : TVar Int = x")
+        kinds = {"x": "Int", "flag": "Bool", "unit": "()", "slot": "TVar Int"}
+        for name, value in (("x", 0), ("x", 7), ("x", -7), ("x", 2**63 - 1), ("x", -(2**63)), ("flag", True), ("flag", False), ("unit", None),
+                            ("slot", X)):  # fmt: skip
+            with self.subTest(name=name, value=value):
+                text = stmdesk.literal(value)
+                self.assert_is(desk.atomically(f"return {text}"), value)
+                self.assert_is(desk.atomically(f"writeTVar {name} {text}"), None)
+                self.assert_is(desk.value(name), value)
+                with new_desk() as other:
+                    other.tvar("x : Int = 1")
+                    other.tvar(f"its : {kinds[name]} = {text}")
+                    self.assert_is(other.value("its"), value)
+        self.assertEqual(stmdesk.literal(-1), "(-1)")
+        for wrong, kind in ((2**63, ValueError), (-(2**63) - 1, ValueError), (Ref(9), ValueError), (NewRef(0), ValueError), (1.0, TypeError),
+                            ("7", TypeError), (b"7", TypeError)):  # fmt: skip
+            with self.subTest(wrong=wrong), self.assertRaises(kind):
+                stmdesk.literal(wrong)

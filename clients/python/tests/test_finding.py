@@ -155,6 +155,34 @@ class Finding(OnProgram):
         for looked in ("Desk(..)", "STMDESK isn't set", "/usr/bin:/bin", f"{package / 'bin' / 'stmdesk'}", f"no folder above {package}"):
             self.assertIn(looked, said)
 
+    def test_the_module_runs_it(self):
+        """`python -m stmdesk WORDS` is the program with these words."""
+        stub = self.folder / "stub"
+        stub.write_text('#!/bin/sh\necho "$@"\ncat\nexit 3\n')
+        stub.chmod(0o755)
+
+        def run(*words, **variables):
+            command = [sys.executable, "-B", "-m", "stmdesk", *words]
+            done = subprocess.run(command, cwd=HERE, input="a line\n", capture_output=True, text=True, timeout=SECONDS,
+                                  env={"PATH": "/usr/bin:/bin"} | variables)  # fmt: skip
+            return done.returncode, done.stdout, done.stderr
+
+        self.assertEqual(run("check", "--why", STMDESK=str(stub)), (3, "check --why\na line\n", ""))
+        self.assertEqual(run("--version", STMDESK=str(stub)), (3, "--version\na line\n", ""))
+        status, printed, said = run("run", STMDESK=str(self.folder / "none"))
+        self.assertEqual((status, printed), (1, ""))
+        self.assertRegex(said, "^stmdesk: no program to run: STMDESK names .*none")
+        status, printed, said = run(STMDESK=str(stub))
+        self.assertEqual((status, printed), (1, ""))
+        self.assertIn("serve", said)
+        status, printed, said = run("serve", "--help")
+        self.assertEqual((status, said), (0, ""))
+        self.assertIn("stmdesk-serve [OPTIONS] SOCKET", printed)
+
+    def test_aio_is_there_when_it_is_asked_for(self):
+        code = "import stmdesk, sys\nprint('asyncio' in sys.modules, stmdesk.aio.Desk.__module__, hasattr(stmdesk, 'frob'))"
+        self.assertEqual(self.run_python(code, PYTHONPATH=str(HERE)), "False stmdesk.aio False\n")
+
     def test_a_shallow_folder(self):
         os.environ.pop("STMDESK", None)
         with mock.patch.object(_program, "__file__", "/stmdesk.py"), self.assertRaises(FileNotFoundError):
