@@ -1,18 +1,20 @@
 #!/usr/bin/env python3
 """A small job engine on stmdesk. Workers wait for jobs in variables; a change evaluates again only the blocks that read it.
 
+    python3 clients/python/job_engine.py [--journal JOURNAL]
     python3 clients/python/job_engine.py [PROGRAM [JOURNAL [EVENTS]]]
 
 A job is a number; 0 means that there is none. There are two slots for one job each, and a worker takes from `urgent` first. A
 block says what a worker does and what it waits for; the engine knows nothing of slots. It evaluates what is new or stale,
 finishes what is ready, and gives each result to whoever asked for it. job_engine.out has what this prints. With a JOURNAL, a
 file, the engine survives a crash: start it again, and it goes on. Beside it is JOURNAL.notes, with what a journal doesn't keep: after a
-checkpoint, which comes after EVENTS events, it no longer has what became of the blocks before.
+checkpoint, which comes after EVENTS events, it no longer has what became of the blocks before. Without PROGRAM it runs the one that
+`Desk()` runs.
 """
 
+import argparse
 import json
 import os
-import sys
 from collections import deque
 from collections.abc import Callable, Iterator
 from contextlib import contextmanager
@@ -242,4 +244,10 @@ def main(program: str | None = None, journal: str | None = None, events: str | N
 
 
 if __name__ == "__main__":
-    main(*sys.argv[1:4])
+    parser = argparse.ArgumentParser(description=__doc__, formatter_class=argparse.RawDescriptionHelpFormatter)
+    parser.add_argument("program", metavar="PROGRAM", nargs="?", help="the program to run")
+    parser.add_argument("last", metavar="JOURNAL", nargs="?", help="the file of the journal")
+    parser.add_argument("events", metavar="EVENTS", nargs="?", help="after which a checkpoint comes")
+    parser.add_argument("--journal", metavar="JOURNAL", help="the same, without a PROGRAM")
+    asked = parser.parse_args()
+    main(asked.program, asked.last or asked.journal, asked.events)

@@ -1,11 +1,14 @@
 #!/usr/bin/env python3
 """A job engine on stmdesk: jobs that need others, priorities, permits, retries with backoff, a journal. README.md explains it.
 
+    python3 examples/engine/engine.py [--journal JOURNAL]
     python3 examples/engine/engine.py [PROGRAM [JOURNAL]]
 
-engine.out has what this prints. With a JOURNAL, a file, the engine goes on after a crash: start it again.
+engine.out has what this prints. With a JOURNAL, a file, the engine goes on after a crash: start it again. Without PROGRAM it runs the one
+that `Desk()` runs.
 """
 
+import argparse
 import json
 import os
 import sys
@@ -99,8 +102,8 @@ class Engine:
 
     def __init__(self, program: str | None = None, journal: str | None = None, *, permits: int = 2) -> None:
         """At most `permits` jobs run at a time. If a process before has left a journal, its jobs are there, and go on."""
+        self.desk = Desk(program, journal=journal)  # first, since the notes are whose the journal is: nobody else can open that
         self.notes = Notes(None if journal is None else Path(f"{journal}.notes"))
-        self.desk = Desk(program, journal=journal)
         self.adding = threading.Lock()
         self.count = 0  # jobs whose variables are declared
         self.over: set[int] = set()  # jobs that are known to be over
@@ -346,4 +349,9 @@ def main(program: str | None = None, journal: str | None = None) -> None:
 
 
 if __name__ == "__main__":
-    main(*sys.argv[1:3])
+    parser = argparse.ArgumentParser(description=__doc__, formatter_class=argparse.RawDescriptionHelpFormatter)
+    parser.add_argument("program", metavar="PROGRAM", nargs="?", help="the program to run")
+    parser.add_argument("last", metavar="JOURNAL", nargs="?", help="the file of the journal")
+    parser.add_argument("--journal", metavar="JOURNAL", help="the same, without a PROGRAM")
+    asked = parser.parse_args()
+    main(asked.program, asked.last or asked.journal)

@@ -125,6 +125,25 @@ class Pages(OnProgram):
             self.assertEqual(printed, (folder / "engine.out").read_text())
             self.assertTrue(check(path, program=program))
 
+    @needs_process("an example runs the program")
+    def test_a_second_engine_on_a_journal(self):
+        """It is refused before it touches the notes, of which the first may be writing a line."""
+        folder = REPOSITORY / "examples" / "engine"
+        if not folder.exists():
+            self.skipTest("the package was copied without the examples")
+        with tempfile.TemporaryDirectory() as name:
+            path, notes = pathlib.Path(name) / "journal", pathlib.Path(name) / "journal.notes"
+            command = [sys.executable, "-B", str(folder / "engine.py"), program, str(path)]
+            with Desk(program, journal=path):
+                notes.write_text('{"number": 1, "res')
+                done = subprocess.run(command, capture_output=True, text=True, timeout=SECONDS)
+                self.assertIn("in use", done.stderr)
+                self.assertEqual((done.stdout, notes.read_text()), ("", '{"number": 1, "res'))
+            done = subprocess.run([*command[:3], "--journal", str(path)], capture_output=True, text=True, timeout=SECONDS,
+                                  env=os.environ | {"STMDESK": program})  # fmt: skip
+            self.assertEqual((done.stdout, done.stderr), ((folder / "engine.out").read_text(), ""))
+            self.assertTrue(check(path, program=program))
+
     def assert_went_on(self, printed, again):
         """Each job was taken once, and each result came once. What is printed again is the same without what isn't known any more."""
         took = re.findall(r"(?m)^  (?:ann|bob) finishes with (\d+)", printed)
