@@ -16,7 +16,7 @@ _RESERVED = _ACTIONS | {"let", "then", "else", "True", "False", "Int", "Bool", "
 _BEGIN_ACTION = {"", "{", ";", "then", "else", "<-", "("}
 _LIST = "return, readTVar, writeTVar, newTVar, retry, throw, orElse, catch, if, do or a bracket"
 
-# What to write for words of Haskell that the language doesn't have.
+# What to write for words of other languages that this one doesn't have.
 _WORDS = {
     "check": "there is no `check`: write `if a then return () else retry`",
     "when": "there is no `when`: write `if a then b else return ()`",
@@ -40,8 +40,15 @@ _WORDS = {
     "in": "there is no `in`: write `let a = 1;` before the next statement of a `do { .. }`",
     "case": "there is no `case`: write `if`",
     "where": "there is no `where`: write `let a = 1;` in a `do { .. }`",
+    "elif": "there is no `elif`: write `else if`",
+    "while": "there are no loops: write each step out",
+    "for": "there are no loops: write each step out",
+    "print": "a block prints nothing: `return` the value",
+    "read": "there is no `read`: write `readTVar`",
+    "write": "there is no `write`: write `writeTVar`",
 }
 _WORDS["modifyTVar'"] = _WORDS["modifyTVar"]
+_WORDS |= {it: f"there is no `{it}`: write `()`, or a number that means it" for it in ("None", "Nothing", "null", "nil")}
 
 # What to write for a byte that begins no token. The longest that fits is taken.
 _BYTES = {
@@ -59,7 +66,9 @@ _BYTES = {
     "'": "there is no text: values are numbers, True, False, () and references",
     "[": "there are no lists",
     "]": "there are no lists",
-    ",": "there are no pairs",
+    ",": "there are no pairs: a blank comes before each argument, and a `;` between statements",
+    ".": "numbers are whole, and a name has only letters, digits, `_` and `'`",
+    "!": "there is no `!`: write `(a == False)`",
     "#": "a block names variables by their declared names",
     "_": "a name begins with a small letter",
     "|": "write `||`",
@@ -243,6 +252,8 @@ def _bad_byte(text: str, place: int) -> str | None:
     sign = next((it for it in (after[:2], after[:1]) if it in _BYTES), None)
     left = re.search(r"(?:^|[(;{=]|&&|\|\||\b(?:if|return))\s*([\w']+)\s*$", before)
     right = re.match(r"\s*([\w']+)\s*(?:$|[);}]|&&|\|\||(?:then|else)\b)", after[len(sign) :]) if sign else None
+    if sign == "_" and before[-1:].isdigit():
+        return "a number has only digits"
     if left and right and sign in ("/=", "!="):
         return f"there is no `{sign}`: write `({left[1]} == {right[1]}) == False`"
     if left and right and sign in (">", ">="):
@@ -317,6 +328,10 @@ class _Tokens:
         found = self._open()
         return bool(found) and self.words[found[-1]] == "{"
 
+    def _is_in_condition(self) -> bool:
+        """Whether the place is between an `if` and its `then`."""
+        return next((it == "if" for it in reversed(self.words[: self.at]) if it in ("if", "then", "else", ";", "{")), False)
+
     def _lacks_else(self) -> bool:
         """Whether in the innermost brackets around the place an `if` has no `else` yet."""
         begin = self._open()[-1] if self._open() else 0
@@ -365,6 +380,12 @@ class _Tokens:
             return f"a negative number needs brackets: write `(-{self.after})`"
         if self.at == 0 and self.word in _RESERVED:
             return f"`{self.word}` is a word of the language: choose another name"
+        if self.at == 0 and self.word[:1].isalnum() and not self._is_name(self.word):
+            return f"`{self.word}`: a name begins with a small letter"
+        if self.before == ":" and self.word == ":":
+            return "one `:` comes between the name and the type"
+        if "=" in self.words[3 : self.at]:
+            return "the value is a number, `(-n)`, `True`, `False`, `()` or the name of a declared variable, and nothing comes after it"
         return "a declaration is `name : type = value`, as `x : Int = 1`; types are Int, Bool, () and TVar t"
 
     def unexpected(self) -> str | None:
@@ -384,6 +405,8 @@ class _Tokens:
             return f"only a number can follow `(-`: write `(0 - {self.word})`"
         if self.word not in _OPERATORS:
             return None
+        if self.word in ("+", "-", "*") and self.after == "=":
+            return f"there is no `{self.word}=`: write `a <- readTVar x; writeTVar x (a {self.word} 1)`"
         hyphened = self._hyphened(self.at)
         if hyphened:
             return hyphened
@@ -417,6 +440,8 @@ class _Tokens:
             return "`do` needs braces and semicolons: `do { a <- readTVar x; return a }`"
         if self.word == "}" and self.before in (";", "{"):
             return "no `;` comes after the last action" if self.before == ";" else "`do` needs an action: `do { return () }`"
+        if self._is_in_condition() and self._atom_before(self.at) is not None and self.word not in _OPERATORS | set("=<-)"):
+            return "`if` needs `then` and `else`, and no braces: `if a then b else c`"
         if self.before in _TAKE_VALUE and self.word in (";", "}", ")", "else"):
             return f"`{self.before}` takes one value: `{self.before} ()`" if self.before == "return" else None
         begin = self._atom_before(self.at)
@@ -450,6 +475,10 @@ class _Tokens:
             return f"a `;` is missing before `{self.word}`"
         if self.word == ";" or begins and (ends or names_result or self.word == "let"):
             return "several actions need a `do`: `do { a <- readTVar x; writeTVar x (a + 1); return a }`"
+        if self.word == "=" and self._is_in_condition():
+            return "`==` compares: write `a == b`"
+        if self.word == "<-" and self._get(self.at - 2) == "let":
+            return f"`let` names a value: leave it out, `{self.before} <- {self.after} ..`"
         if self.word in ("=", ":") and self._is_name(self.before):
             if self.after in _ACTIONS:
                 return f"write `{self.before} <- {self.after} ..`"
@@ -459,15 +488,20 @@ class _Tokens:
     def _action(self) -> str | None:
         """An action in place of a value, or a value in place of an action."""
         head = self._get(self._head(self.at))
-        if self.word in _ACTIONS and (head in _OPERATORS | _TAKE_VALUE | {"=", "if", "writeTVar"}):
+        is_written = self.before == "(" and self._get(self._head(self.at) - 1) == "writeTVar"
+        if self.word in _ACTIONS and (is_written or head in _OPERATORS | _TAKE_VALUE | {"=", "if", "writeTVar"}):
             if self.word == "if":
                 return "`if` chooses between actions: write `if a then return b else return c`"
             return f"`{self.word}` is an action, not a value: bind its result first, `a <- {self.word} ..`"
         if self.before == "<-":
             return f"`<-` names the result of an action; write `let {self._get(self.at - 2)} = ..` to name a value"
         is_capital = self.word[:1].isupper() and self.word not in _RESERVED
+        if is_capital and self.before == "throw":
+            return "what is thrown is a number"
         if is_capital:
             return f"`{self.word}`: a name begins with a small letter"
+        if self._is_name(self.word) and self.before in _BEGIN_ACTION and self.after in ("=", ":"):
+            return f"write `writeTVar {self.word} ..` to write a variable"
         if self.word and self.before in _BEGIN_ACTION and self.word not in _RESERVED | set("(){};"):
             return f"an action is needed here, which begins with {_LIST}"
         return None
