@@ -11,7 +11,7 @@ from copy import copy
 from os import getpid
 from threading import get_ident
 from types import TracebackType
-from typing import Any, Literal, TypeVar, get_args
+from typing import Any, Literal, NoReturn, TypeVar, get_args
 
 from ._answers import Answers
 from ._batch import Batch
@@ -749,6 +749,12 @@ class Desk:
         error = self._transport.close(self._patience)
         if error:
             raise error
+
+    def __reduce__(self) -> NoReturn:
+        raise TypeError(
+            "a desk can't be pickled, as for another process: it belongs to the one that made it. See \"Several processes\" in "
+            "clients/python/README.md"
+        )
 
     def __enter__(self) -> Desk:
         return self

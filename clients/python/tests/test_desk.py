@@ -412,6 +412,15 @@ class Stores(OnProgram):
             desk.value(Ref(3))
 
 
+class Pickling(OnProgram):
+    def test_a_desk_is_not_pickled(self):
+        desk = self.start()
+        for it in (desk, [desk]):
+            with self.assertRaisesRegex(TypeError, "^a desk can't be pickled.*Several processes"):
+                pickle.dumps(it)
+        self.assert_is(desk.value("x"), 1)
+
+
 class Choices(OnProgram):
     def test_or_else(self):
         desk = self.start()
