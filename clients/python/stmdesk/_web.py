@@ -45,6 +45,14 @@ TOTALS = {
 }
 
 
+def host_and_port(address: str) -> tuple[str, int]:
+    """Of an address HOST:PORT, where HOST may be `[::1]`. Raises ValueError."""
+    host, _, port = address.rpartition(":")
+    if not host or "/" in host or not (port.isascii() and port.isdigit()) or int(port) >= 1 << 16:
+        raise ValueError(f"{address!r} isn't HOST:PORT")
+    return host, int(port)
+
+
 class Web:
     """Serves one address, with the page under a token, or with the figures."""
 
@@ -66,10 +74,8 @@ class Web:
 
     async def listen(self, address: str) -> str:
         """Returns the address for a browser. Raises OSError and ValueError."""
-        host, _, port = address.rpartition(":")
-        if not host or not port.isdigit():
-            raise ValueError(f"{address!r} isn't HOST:PORT")
-        self._listener = await asyncio.start_server(self._connected, host.strip("[]"), int(port), limit=HEAD)
+        host, port = host_and_port(address)
+        self._listener = await asyncio.start_server(self._connected, host.strip("[]"), port, limit=HEAD)
         at = self._listener.sockets[0].getsockname()[1]
         return f"http://{host}:{at}/{f'{self.token}/' if self.what == 'page' else 'metrics'}"
 

@@ -28,7 +28,7 @@ from ._machine import WAITING, Ended
 from ._program import check_built, find_program
 from ._replica import EVERY, LEASE, Differs, Replica
 from ._serve import Limits, Server
-from ._web import Web
+from ._web import Web, host_and_port
 
 CHECKPOINT = 500_000  # events
 FIRST_FILE = 3  # that a service manager gives
@@ -49,14 +49,14 @@ def parser() -> argparse.ArgumentParser:
     add("--sync", choices=("full", "sector", "append", "none"), help="what is synced before an answer (default full)")
     add("--checkpoint-every", metavar="N", type=_number, help=f"events after which a checkpoint is made (default {CHECKPOINT})")
     add("--keep", action="store_true", help="blocks of `submit` go on waiting when their connection ends")
-    add("--grace", metavar="SECONDS", type=float, default=10.0, help="how long a session waits for a new connection (default 10)")
+    add("--grace", metavar="SECONDS", type=_seconds, default=10.0, help="how long a session waits for a new connection (default 10)")
     add("--mode", metavar="MODE", type=_mode, default=0o600, help="of the socket, in octal digits (default 600)")
     add("--group", metavar="GROUP", type=_group, help="of the socket")
     add("--max-connections", metavar="N", type=_number, default=Limits.connections, help="default %(default)s")
     add("--max-waiting", metavar="N", type=_number, default=WAITING, help="blocks that wait (default %(default)s)")
     add("--max-request", metavar="BYTES", type=_number, default=Limits.request, help="of a request, such as a batch (default %(default)s)")
     add("--max-unread", metavar="BYTES", type=_number, default=Limits.unread, help="of answers that a peer hasn't read (default %(default)s)")
-    add("--replicas", metavar="HOST:PORT,..", help="nodes of etcd with the log of several servers (docs/REPLICAS.md)")
+    add("--replicas", metavar="HOST:PORT,..", type=_nodes, help="nodes of etcd with the log of several servers (docs/REPLICAS.md)")
     add("--name", metavar="NAME", help="of this replica")
     add("--folder", metavar="FOLDER", help="of this replica alone, for its files")
     add("--next-program", metavar="PATH", action="append", default=[], help="a further version of the program, for `replica upgrade`")
@@ -77,6 +77,25 @@ def _number(text: str) -> int:
     if not text.isdigit() or int(text) < 1:
         raise argparse.ArgumentTypeError(f"{text!r} isn't a number from 1 on")
     return int(text)
+
+
+def _seconds(text: str) -> float:
+    try:
+        found = float(text)
+    except ValueError:
+        found = -1.0
+    if not found >= 0:  # nor is it NaN
+        raise argparse.ArgumentTypeError(f"{text!r} isn't a number of seconds")
+    return found
+
+
+def _nodes(text: str) -> str:
+    for it in text.split(","):
+        try:
+            host_and_port(it)
+        except ValueError as error:
+            raise argparse.ArgumentTypeError(str(error)) from None
+    return text
 
 
 def _mode(text: str) -> int:
