@@ -2,6 +2,7 @@
 
 from __future__ import annotations
 
+import fcntl
 import os
 import select
 import shutil
@@ -106,6 +107,21 @@ def run_once(command: Sequence[str], text: str | bytes) -> tuple[int, str, str]:
                 process.wait()
             raise
     return process.returncode, printed.decode("ascii", "replace"), said.decode("utf-8", "replace").strip()
+
+
+def is_locked(path: str | os.PathLike[str]) -> bool:
+    """Whether a process has locked the file, as a run does with its journal."""
+    try:
+        file = os.open(path, os.O_RDONLY | os.O_NONBLOCK | os.O_CLOEXEC)
+    except OSError:
+        return False
+    try:
+        fcntl.flock(file, fcntl.LOCK_SH | fcntl.LOCK_NB)
+    except OSError as error:
+        return isinstance(error, BlockingIOError)
+    finally:
+        os.close(file)
+    return False
 
 
 def is_ours(error: BaseException) -> bool:

@@ -20,6 +20,7 @@ from typing import Any
 
 from ._machine import LINE, REQUEST, REQUESTS, WAITING, WAITS, Console, Done, Ended, Lines, Machine, weight, word
 from ._numbers import Numbers
+from ._program import is_locked
 
 GROUP = 1 << 18  # weight of a group, after which no further request is taken into it
 AHEAD = 1 << 16  # lines of a plain connection that are read and not given
@@ -550,21 +551,6 @@ def identity(path: str) -> tuple[int, int]:
     """Which file this is. Raises OSError."""
     found = os.lstat(path)
     return found.st_dev, found.st_ino
-
-
-def is_locked(path: str) -> bool:
-    """Whether a process has locked the file."""
-    try:
-        file = os.open(path, os.O_RDONLY | os.O_NONBLOCK | os.O_CLOEXEC)
-    except OSError:
-        return False
-    try:
-        fcntl.flock(file, fcntl.LOCK_SH | fcntl.LOCK_NB)
-    except OSError as error:
-        return isinstance(error, BlockingIOError)
-    finally:
-        os.close(file)
-    return False
 
 
 async def declarations(program: str, path: str) -> list[Item]:

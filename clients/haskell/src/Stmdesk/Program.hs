@@ -22,8 +22,8 @@ import System.Process.Internals (ProcessHandle__ (OpenHandle), withProcessHandle
 import System.Timeout (timeout)
 
 -- | The path of the program: the one that is given; or else what the environment variable @STMDESK@ names; or else that of the
--- repository in which the working directory or this executable is, if the program is built there; or else the first @stmdesk@ on the
--- @PATH@. Throws 'NoProgram' if there is none.
+-- repository in which the working directory or this executable is, if the program is built there or in its release; or else the first
+-- @stmdesk@ on the @PATH@. Throws 'NoProgram' if there is none.
 --
 -- >>> findProgram Nothing >>= \path -> runOnce path ["--help"] (Bytes.pack "") >>= \(status, _, _) -> print status
 -- ExitSuccess
