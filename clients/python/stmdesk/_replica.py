@@ -12,6 +12,7 @@ import hashlib
 import json
 import logging
 import os
+import re
 import time
 from collections import deque
 from collections.abc import Sequence
@@ -96,7 +97,8 @@ class Replica(Server):
 
     async def begin(self) -> None:
         for old in self.folder.glob("desk-*"):
-            old.unlink()
+            if re.fullmatch("desk-[0-9]+", old.name):
+                old.unlink()
         text = b""
         while found := await self.etcd.range(self.key("snap")):
             head = json.loads(found[0][1])
