@@ -484,6 +484,28 @@ class Desk:
         assert isinstance(verdict, Commits)
         return verdict.result
 
+    def values(self, *variables: str | Ref) -> list[Value]:
+        """The values of several variables at one moment, each given by its name or as a reference. Between two calls of `value` a block may
+        finish, and here none does.
+
+        >>> y = desk.tvar("y : Bool = True")
+        >>> desk.values("x", y)
+        [1, True]
+        """
+        names = [it.name if isinstance(it, Ref) else it for it in variables]
+        asked = {name: Answer(TRY, f"readTVar {name}") for name in names if name is not None}
+        stores = [Answer(STORE)] if None in names else []
+        self._run([*asked.values(), *stores])
+        found: list[Value] = []
+        for name, variable in zip(names, variables):
+            if name is None:
+                found.append(stores[0].result()[variable].value)
+            else:
+                verdict = asked[name].result()
+                assert isinstance(verdict, Commits)
+                found.append(verdict.result)
+        return found
+
     def variable(self, declaration: str) -> Ref:
         """The variable of a declaration: the one that has been declared with this name and this type, here or in the journal, or
         else a new one, as by `tvar`, or by `declare` if it is too late for that. So a program that keeps a journal begins in the same way

@@ -330,6 +330,14 @@ class Desk:
         """
         return await self._call(partial(self._desk.value, variable))
 
+    async def values(self, *variables: str | Ref) -> list[Value]:
+        """The values of several variables at one moment.
+
+        >>> run(desk.values("x", Ref(0, "x")))
+        [1, 1]
+        """
+        return await self._call(partial(self._desk.values, *variables))
+
     async def atomically(self, block: str, timeout: float | None = None, *, label: str | None = None) -> Value:
         """Runs the block and returns its result. While the block retries, waits until what it has read changes. If it comes to wait it
         gets the label, if one is given.

@@ -51,6 +51,7 @@ class Asynchronous(OnProgram):
             self.assert_is(await desk.cancel(2), None)
             self.assert_is((await desk.store())["x"], cell(0, "x", "Int", 5, 1))
             self.assert_is([await desk.value("x"), await desk.value(X)], [5, 5])
+            self.assert_is(await desk.values("x", X), [5, 5])
             self.assert_is(await desk.settle(), Settled(0, 0))
             self.assert_is(await desk.drain(), Settled(0, 0))
             self.assertEqual((await desk.history()).count("\n"), 9)

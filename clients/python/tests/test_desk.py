@@ -410,6 +410,24 @@ class Stores(OnProgram):
         self.assert_refused(lambda: desk.value("y"), "Unknown", 9)
         with self.assertRaises(KeyError):
             desk.value(Ref(3))
+        self.assert_is(desk.values("x", slot, Ref(2), X, "x"), [1, Ref(2), 3, 1, 1])
+        self.assert_is(desk.values(), [])
+        self.assert_refused(lambda: desk.values("x", "y"), "Unknown", 9)
+        with self.assertRaises(KeyError):
+            desk.values("x", Ref(3))
+
+    def test_values_of_one_moment(self):
+        """No finish of another thread comes between the values."""
+        desk = self.start()
+        desk.tvar("y : Int = 1")
+        both = stmdesk.do("a <- readTVar x", "writeTVar x (a + 1)", "writeTVar y (a + 1)")
+        writer = threading.Thread(target=lambda: [desk.atomically(both) for _ in range(200)])
+        writer.start()
+        while writer.is_alive():
+            x, y = desk.values("x", "y")
+            self.assertEqual(x, y)
+        writer.join()
+        self.assert_is(desk.values("x", "y"), [201, 201])
 
 
 class Pickling(OnProgram):
