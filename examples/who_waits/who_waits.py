@@ -8,6 +8,7 @@ written once: who_waits.out is what this prints without a SOCKET.
 """
 
 import argparse
+import os
 import shutil
 import sys
 import threading
@@ -125,11 +126,18 @@ def pages(desk: Desk, once: bool, every: float) -> Iterable[str]:
         time.sleep(every)
 
 
+def seconds(text: str) -> float:
+    found = float(text)
+    if not found >= 0:  # nor is it NaN
+        raise ValueError
+    return found
+
+
 def main() -> None:
     parser = argparse.ArgumentParser(description=__doc__, formatter_class=argparse.RawDescriptionHelpFormatter)
     parser.add_argument("socket", metavar="SOCKET", nargs="?", help="the server's")
     parser.add_argument("--once", action="store_true", help="write one page")
-    parser.add_argument("--every", type=float, default=1.0, metavar="SECONDS", help="from page to page (1)")
+    parser.add_argument("--every", type=seconds, default=1.0, metavar="SECONDS", help="from page to page (1)")
     asked = parser.parse_args()
     clear = "\033[H\033[J" if sys.stdout.isatty() and not asked.once else ""
     with connect(asked.socket) if asked.socket else Desk() as desk, suppress(KeyboardInterrupt):
@@ -140,4 +148,10 @@ def main() -> None:
 
 
 if __name__ == "__main__":
-    main()
+    try:
+        main()
+    except BrokenPipeError:  # nobody reads the pages any more
+        os.dup2(os.open(os.devnull, os.O_WRONLY), 1)
+        sys.exit(1)
+    except (DeskError, OSError) as error:  # as there is no server, or the server has ended
+        sys.exit(f"who_waits: {error}")

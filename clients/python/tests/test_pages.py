@@ -86,6 +86,12 @@ class Pages(OnProgram):
         environment = {**os.environ, "STMDESK": program, "COLUMNS": "160"}
         done = subprocess.run(command, capture_output=True, text=True, timeout=SECONDS, env=environment)
         self.assertEqual((done.stdout, done.stderr), ((folder / "who_waits.out").read_text(), ""))
+        done = subprocess.run([*command, str(folder / "none")], capture_output=True, text=True, timeout=SECONDS, env=environment)
+        said = f"who_waits: no server at {folder / 'none'}: No such file or directory\n"
+        self.assertEqual((done.returncode, done.stdout, done.stderr), (1, "", said))
+        for wrong in ("-1", "nan", "x"):
+            done = subprocess.run([*command, "--every", wrong], capture_output=True, text=True, timeout=SECONDS, env=environment)
+            self.assertEqual((done.returncode, done.stdout), (2, ""))
 
     def killed(self, command, *more):
         """Starts the command with a journal, and more words after it, again and again, and kills it at a random moment, until it ends by
