@@ -467,7 +467,13 @@ class Desk:
         {"count":0,"init":1,"name":"x","type":"Int"}
         {"block":"retry","ticket":1}
         """
-        return self._ask(CHECKPOINT)
+        try:
+            return self._ask(CHECKPOINT)
+        except Refused as refused:
+            why = self.said.rpartition("\n")[2]
+            if refused.name == "NoCheckpoint" and why:
+                refused.hint = f"no new file could take the place of the journal, and the desk goes on in the old file: {why}"
+            raise
 
     # What a command doesn't do by itself.
 
@@ -753,6 +759,18 @@ class Desk:
         0
         """
         return self._dropped
+
+    @property
+    def said(self) -> str:
+        """The end of what the program has written on standard error, which nobody sees otherwise: that it dropped the end of a journal, for
+        example, or that no checkpoint could be made, and why. After each of these the desk goes on. Of a desk of `connect` this is empty,
+        since its server has the program, and with `local`, since there is none.
+
+        >>> desk.said
+        ''
+        """
+        transport = self._transport
+        return transport.said_at_last() if isinstance(transport, Process) else ""
 
     def close(self) -> None:
         """Ends the program's input and waits for the program to end; kills it if that takes more than `patience` seconds. Before that, it

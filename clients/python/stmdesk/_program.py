@@ -296,6 +296,11 @@ class Process(OwnTransport):
                 self._errors.close()
             return self._how
 
+    def said_at_last(self) -> str:
+        """What `said` returns, also after the program has ended."""
+        with self._ending:
+            return self._how.said if self._how is not None else self.said()
+
     def said(self) -> str:
         """The end of what the program wrote on standard error so far."""
         file = self._errors.fileno()  # whose position is the program's, too

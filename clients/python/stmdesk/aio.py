@@ -415,6 +415,15 @@ class Desk:
         """
         return self._desk.dropped
 
+    @property
+    def said(self) -> str:
+        """The end of what the program has written on standard error.
+
+        >>> desk.said
+        ''
+        """
+        return self._desk.said
+
     async def close(self) -> None:
         """Ends the program's input and waits for the program to end, as `stmdesk.Desk.close` does.
 

@@ -401,6 +401,27 @@ class Journals(InThreads):
             self.assert_is((desk.eval(), desk.finish(waiting).result, desk.events()), (1, 51, []))
         self.assertEqual(sorted(self.path.parent.iterdir()), [self.path])
 
+    def test_a_checkpoint_that_can_not_be_made(self):
+        """The refusal has what the program said, and so has the desk."""
+        in_the_way = self.path.parent / f".{self.path.name}.stmdesk-new"
+        with self.open() as desk:
+            desk.submit("retry")
+            self.assertEqual(desk.said, "")
+            in_the_way.mkdir()
+            with self.assertRaises(Refused) as caught:
+                desk.checkpoint()
+            self.assertRegex(desk.said, f"^stmdesk: no checkpoint: .*{in_the_way.name}: ")
+            self.assertEqual(caught.exception.name, "NoCheckpoint")
+            self.assertTrue(caught.exception.hint.endswith(f"goes on in the old file: {desk.said}"))
+            self.assert_is(desk.submit("retry"), 2)
+            in_the_way.rmdir()
+            self.assert_is(desk.checkpoint(), 2)
+            said = desk.said
+        self.assertEqual(desk.said, said)  # it has ended
+        self.path.write_bytes(self.path.read_bytes() + b"{")
+        with self.open() as desk:
+            self.assertEqual(desk.said, f"stmdesk: {self.path}: dropped 1 bytes after the last whole line")
+
     def test_wrong_arguments(self):
         with self.assertRaises(ValueError):
             new_desk(checkpoint_every=10)
