@@ -85,7 +85,7 @@ _NAMES = {
     "CellsFull": "the store has its 1,000,000 variables: this desk can make no more",
     "EndOfText": "the text ends too early",
     "Gone": "its ticket waits no more",
-    "HistoryFull": "the history has all the events that it may have: `checkpoint` lets them go",
+    "HistoryFull": "the history has all the events that it may have: `checkpoint` lets them go; with a journal that is done by itself",
     "JobsFull": "a desk hands out at most 65,536 jobs: use `eval`, which needs none",
     "Late": "`tvar` declares before the first other command: `declare` does so at any time",
     "LineTooLong": "a command has at most 65,536 bytes",

@@ -68,6 +68,11 @@ class Pages(OnProgram):
                 self.assertGreaterEqual(tried.attempted, page.parent == HERE)
                 self.assertEqual(tried.failed, 0)
 
+    def test_the_readme_names_all(self):
+        glance = (HERE / "README.md").read_text().partition("## At a glance\n")[2].partition("\n## ")[0]
+        names = [it for it in dir(Desk) if not it.startswith("_")]
+        self.assertEqual([it for it in names if f"`{it}`" not in glance], [])
+
     @needs_process("an example runs the program")
     def test_the_engine_of_the_examples(self):
         folder = REPOSITORY / "examples" / "engine"
