@@ -8,7 +8,7 @@ from typing import Any, TypeVar
 
 from ._commands import (
     ATOMICALLY, BLOCK, BOARD, CANCEL, CHECKPOINT, DECLARE, DELIVER, DRAIN, EVAL, EVENTS, FINISH, HANDBACK, HISTORY, LABEL, LOOKS, READS, READY,
-    SETTLE, SHOW, STORE, SUBMIT, TAKE, TRY, TVAR, WHY, Answer, Command, decimal, labelling, number_of,
+    SETTLE, SHOW, STORE, SUBMIT, TAKE, TRY, TVAR, WHY, Answer, Command, decimal, labelling, number_of, ticket_of,
 )  # fmt: skip
 from ._values import Entry, Events, Finished, FinishedThrows, Job, Reason, Ref, Settled, Status, Store, Value, Verdict, Waiting
 
@@ -86,21 +86,21 @@ class Commands:
         """`Desk.deliver`, when the batch is sent."""
         return self._add(DELIVER, number_of(job))
 
-    def handback(self, ticket: int) -> Answer[None]:
+    def handback(self, ticket: Waiting | int) -> Answer[None]:
         """`Desk.handback`, when the batch is sent."""
-        return self._add(HANDBACK, decimal(ticket))
+        return self._add(HANDBACK, ticket_of(ticket))
 
     def eval(self) -> Answer[int]:
         """`Desk.eval`, when the batch is sent."""
         return self._add(EVAL)
 
-    def finish(self, ticket: int) -> Answer[Finished | FinishedThrows]:
+    def finish(self, ticket: Waiting | int) -> Answer[Finished | FinishedThrows]:
         """`Desk.finish`, when the batch is sent."""
-        return self._add(FINISH, decimal(ticket))
+        return self._add(FINISH, ticket_of(ticket))
 
-    def cancel(self, ticket: int) -> Answer[None]:
+    def cancel(self, ticket: Waiting | int) -> Answer[None]:
         """`Desk.cancel`, when the batch is sent."""
-        return self._add(CANCEL, decimal(ticket))
+        return self._add(CANCEL, ticket_of(ticket))
 
     def show(self) -> Answer[list[Status]]:
         """`Desk.show`, when the batch is sent."""
@@ -110,13 +110,13 @@ class Commands:
         """`Desk.ready`, when the batch is sent."""
         return self._add(READY)
 
-    def reads(self, ticket: int) -> Answer[dict[Ref, Value]]:
+    def reads(self, ticket: Waiting | int) -> Answer[dict[Ref, Value]]:
         """`Desk.reads`, when the batch is sent."""
-        return self._add(READS, decimal(ticket))
+        return self._add(READS, ticket_of(ticket))
 
-    def why(self, ticket: int) -> Answer[Reason]:
+    def why(self, ticket: Waiting | int) -> Answer[Reason]:
         """`Desk.why`, when the batch is sent."""
-        return self._add(WHY, decimal(ticket))
+        return self._add(WHY, ticket_of(ticket))
 
     def label(self, block: Waiting | int, label: str | None) -> Answer[None]:
         """`Desk.label`, when the batch is sent.
@@ -129,9 +129,9 @@ class Commands:
         """
         return self._add(LABEL, labelling(block, label))
 
-    def block(self, ticket: int) -> Answer[str]:
+    def block(self, ticket: Waiting | int) -> Answer[str]:
         """`Desk.block`, when the batch is sent."""
-        return self._add(BLOCK, decimal(ticket))
+        return self._add(BLOCK, ticket_of(ticket))
 
     def board(self) -> Answer[list[Entry]]:
         """The console's `board`, when the batch is sent: what `Desk.board` returns, without texts and reasons."""

@@ -18,6 +18,7 @@ from ._batch import Batch
 from ._commands import (
     ATOMICALLY, BLOCK, BOARD, CANCEL, CHECKPOINT, DECLARE, DECLARED, DELIVER, DRAIN, EVAL, EVENTS, FINISH, HANDBACK, HISTORY, LABEL, LOOKS,
     READS, READY, SETTLE, SHOW, STORE, SUBMIT, TAKE, TRY, TVAR, WAITING, WHY, Answer, Command, checked_label, decimal, labelling, number_of,
+    ticket_of,
 )  # fmt: skip
 from ._errors import BadAnswer, Cancelled, DeskError, OutOfMemory, Refused, Thrown, TimedOut
 from ._local import begin_local
@@ -253,13 +254,13 @@ class Desk:
         """
         self._ask(LABEL, labelling(block, label))
 
-    def block(self, ticket: int) -> str:
+    def block(self, ticket: Waiting | int) -> str:
         """The text of a waiting block, on one line: an end of a line in it is a blank.
 
         >>> desk.block(desk.submit("do { a <- readTVar x; if a < 5 then retry else return a }"))
         'do { a <- readTVar x; if a < 5 then retry else return a }'
         """
-        return self._ask(BLOCK, decimal(ticket))
+        return self._ask(BLOCK, ticket_of(ticket))
 
     def take(self, count: int) -> list[Job]:
         """Hands out the `count` lowest queued tickets, or all if there are fewer, as jobs on the present store.
@@ -280,14 +281,14 @@ class Desk:
         """
         return self._ask(DELIVER, number_of(job))
 
-    def handback(self, ticket: int) -> None:
+    def handback(self, ticket: Waiting | int) -> None:
         """Queues a ticket again that `take` handed out.
 
         >>> ticket = desk.submit("readTVar x")
         >>> for job in desk.take(10):
         ...     desk.handback(job.ticket)
         """
-        self._ask(HANDBACK, decimal(ticket))
+        self._ask(HANDBACK, ticket_of(ticket))
 
     def eval(self) -> int:
         """Evaluates all queued tickets and delivers the verdicts. Returns how many there were.
@@ -298,22 +299,22 @@ class Desk:
         """
         return self._ask(EVAL)
 
-    def finish(self, ticket: int) -> Finished | FinishedThrows:
+    def finish(self, ticket: Waiting | int) -> Finished | FinishedThrows:
         """Applies the verdict of a ticket that is current and doesn't block. The ticket then waits no more.
 
         >>> ticket, evaluated = desk.submit("writeTVar x 5"), desk.eval()
         >>> desk.finish(ticket)
         Finished(ticket=1, result=None, stale=[])
         """
-        return self._ask(FINISH, decimal(ticket))
+        return self._ask(FINISH, ticket_of(ticket))
 
-    def cancel(self, ticket: int) -> None:
+    def cancel(self, ticket: Waiting | int) -> None:
         """Ends the waiting of a ticket.
 
         >>> ticket = desk.submit("retry")
         >>> desk.cancel(ticket)
         """
-        self._ask(CANCEL, decimal(ticket))
+        self._ask(CANCEL, ticket_of(ticket))
 
     def show(self) -> list[Status]:
         """The state of each waiting ticket, in ascending order.
@@ -373,16 +374,16 @@ class Desk:
         """
         return self._ask(READY)
 
-    def reads(self, ticket: int) -> dict[Ref, Value]:
+    def reads(self, ticket: Waiting | int) -> dict[Ref, Value]:
         """What the last evaluation of a waiting ticket read, in ascending order of variables, with the values that it found.
 
         >>> ticket, evaluated = desk.submit("do { a <- readTVar x; if a < 5 then retry else return a }"), desk.eval()
         >>> desk.reads(ticket)
         {Ref(0, 'x'): 1}
         """
-        return self._ask(READS, decimal(ticket))
+        return self._ask(READS, ticket_of(ticket))
 
-    def why(self, ticket: int) -> Reason:
+    def why(self, ticket: Waiting | int) -> Reason:
         """What a waiting ticket waits for: an evaluation, since it is `New` or `StaleBy` a finish (`StaleBefore` if a
         checkpoint of an old version doesn't say which); a change of what it has read, since it `Waits`; or nothing but its finish, since it is `Ready`.
 
@@ -392,7 +393,7 @@ class Desk:
         >>> desk.finish(writer).stale, desk.why(reader)
         ([1], StaleBy(ticket=1, finish=2, changes={Ref(0, 'x'): Change(read=1, left=3)}))
         """
-        return self._ask(WHY, decimal(ticket))
+        return self._ask(WHY, ticket_of(ticket))
 
     def store(self) -> Store:
         """All variables, in ascending order: a list, and a mapping by name and by reference.

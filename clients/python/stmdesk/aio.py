@@ -169,7 +169,7 @@ class Desk:
         """
         return await self._call(partial(self._desk.label, block, label))
 
-    async def block(self, ticket: int) -> str:
+    async def block(self, ticket: Waiting | int) -> str:
         """The text of a waiting block, on one line.
 
         >>> run(desk.block(run(desk.submit("retry"))))
@@ -194,7 +194,7 @@ class Desk:
         """
         return await self._call(partial(self._desk.deliver, job))
 
-    async def handback(self, ticket: int) -> None:
+    async def handback(self, ticket: Waiting | int) -> None:
         """Queues a ticket again that `take` handed out.
 
         >>> ticket = run(desk.submit("readTVar x"))
@@ -211,7 +211,7 @@ class Desk:
         """
         return await self._call(self._desk.eval)
 
-    async def finish(self, ticket: int) -> Finished | FinishedThrows:
+    async def finish(self, ticket: Waiting | int) -> Finished | FinishedThrows:
         """Applies the verdict of a ticket that is current and doesn't block.
 
         >>> ticket, evaluated = run(desk.submit("writeTVar x 5")), run(desk.eval())
@@ -220,7 +220,7 @@ class Desk:
         """
         return await self._call(partial(self._desk.finish, ticket))
 
-    async def cancel(self, ticket: int) -> None:
+    async def cancel(self, ticket: Waiting | int) -> None:
         """Ends the waiting of a ticket.
 
         >>> ticket = run(desk.submit("retry"))
@@ -254,7 +254,7 @@ class Desk:
         """
         return await self._call(self._desk.ready)
 
-    async def reads(self, ticket: int) -> dict[Ref, Value]:
+    async def reads(self, ticket: Waiting | int) -> dict[Ref, Value]:
         """What the last evaluation of a waiting ticket read.
 
         >>> ticket, evaluated = run(desk.submit("readTVar x")), run(desk.eval())
@@ -263,7 +263,7 @@ class Desk:
         """
         return await self._call(partial(self._desk.reads, ticket))
 
-    async def why(self, ticket: int) -> Reason:
+    async def why(self, ticket: Waiting | int) -> Reason:
         """What a waiting ticket waits for.
 
         >>> ticket, evaluated = run(desk.submit("readTVar x")), run(desk.eval())

@@ -6,9 +6,10 @@ import signal
 from unittest import mock
 
 from stmdesk import (
-    BadAnswer, Blocks, Cancellation, Commits, Current, Desk, Ended, Finished, Job, New, Settled, Submission, Waiting, _commands,
+    BadAnswer, Blocks, Cancellation, Commits, Current, Desk, Ended, Finished, Job, New, Settled, Submission, Waiting, Waits,
+    _commands,
 )  # fmt: skip
-from tests.common import FLAG, INCREMENT, X, OnProgram, cell, in_threads, library, needs_process, new_desk
+from tests.common import FLAG, INCREMENT, X, OnProgram, cell, in_threads, library, needs_process, new_desk, waits_for
 
 
 class Batches(OnProgram):
@@ -33,6 +34,25 @@ class Batches(OnProgram):
                     [Cancellation(6, 0, 2), Submission(7, 0, 3, "retry")], Settled(0, 1), Finished(4, 5, []), Waiting(5), desk.events(),
                 ],
             )  # fmt: skip
+
+    def test_what_waits_in_place_of_its_ticket(self):
+        desk = self.start()
+        with desk.batch() as batch:
+            answers = [batch.atomically(waits_for(5)), batch.atomically("retry"), batch.atomically("writeTVar x 5")]
+        reader, other = (it.result() for it in answers[:2])
+        self.assert_is((reader, other), (Waiting(1), Waiting(2)))
+        self.assert_is((desk.why(reader), desk.reads(reader), desk.block(reader)), (desk.why(1), {X: 1}, waits_for(5)))
+        self.assert_is(desk.take(1), [Job(1, 1)])
+        self.assert_is(desk.handback(reader), None)
+        with desk.batch() as batch:
+            answers = [batch.why(other), batch.reads(other), batch.block(other), batch.take(1), batch.handback(reader), batch.eval(),
+                       batch.finish(reader), batch.cancel(other), batch.show()]  # fmt: skip
+        wanted = [Waits(2, {}), {}, "retry", [Job(2, 1)], None, 1, Finished(1, 5, []), None, []]
+        self.assert_is([it.result() for it in answers], wanted)
+        with desk.batch() as batch:
+            again = [batch.atomically("retry"), batch.atomically("retry")]
+        desk.cancel(again[0].result())
+        self.assert_refused(lambda: desk.finish(again[1].result()), "Blocks")
 
     def test_a_refused_command(self):
         desk = self.start()
