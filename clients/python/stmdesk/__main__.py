@@ -3,7 +3,7 @@
 import os
 import sys
 
-from ._program import find_program
+from ._program import find_program, raise_stack_limit
 from .server import main
 
 USAGE = """python -m stmdesk serve [OPTIONS] SOCKET runs a server (docs/SERVER.md)
@@ -12,6 +12,7 @@ python -m stmdesk WORDS runs the program that `Desk()` runs: run, explore, storm
 
 def run(words: list[str]) -> None:
     """Runs the program in place of this process."""
+    raise_stack_limit()
     try:
         program = find_program()
         os.execv(program, [program, *words])

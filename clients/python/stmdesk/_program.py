@@ -4,6 +4,7 @@ from __future__ import annotations
 
 import fcntl
 import os
+import resource
 import select
 import shutil
 import signal
@@ -25,6 +26,7 @@ from ._transport import Closed, Odd, OwnTransport
 PART = 1 << 15  # bytes of commands that are sent in one go; while one such is answered, the next is sent
 PIECE = 1 << 16  # bytes that are read at a time: what a pipe holds
 LINE_LIMIT = 16 << 20  # bytes of a line; stmdesk's longest have some 2 MiB
+STACK = 2 << 20  # bytes that the program needs
 SAID_LIMIT = 1 << 16  # bytes that are kept of the end of standard error
 
 
@@ -107,6 +109,15 @@ def run_once(command: Sequence[str], text: str | bytes) -> tuple[int, str, str]:
                 process.wait()
             raise
     return process.returncode, printed.decode("ascii", "replace"), said.decode("utf-8", "replace").strip()
+
+
+def raise_stack_limit() -> None:
+    """Gives this process, and so what it starts, the stack that the program needs, if it may have that. The repository's script does so, too.
+    For processes that are this package's own."""
+    soft, hard = resource.getrlimit(resource.RLIMIT_STACK)
+    if soft != resource.RLIM_INFINITY and soft < STACK:
+        with suppress(OSError, ValueError):  # the hard limit is lower: then the program says what it needs
+            resource.setrlimit(resource.RLIMIT_STACK, (STACK, hard))
 
 
 def is_locked(path: str | os.PathLike[str]) -> bool:

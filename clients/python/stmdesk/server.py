@@ -25,7 +25,7 @@ from pathlib import Path
 from ._commands import decimal
 from ._etcd import Access, context_of
 from ._machine import WAITING, Ended
-from ._program import check_built, find_program
+from ._program import check_built, find_program, raise_stack_limit
 from ._replica import EVERY, LEASE, Differs, Replica
 from ._serve import Limits, Server
 from ._web import Web, host_and_port
@@ -246,6 +246,7 @@ def main(arguments: Sequence[str] | None = None) -> int:
     if not words.replicas and (words.name or words.folder):
         found.error("--name and --folder go with --replicas")
     logging.basicConfig(level=logging.INFO, format="stmdesk-serve: %(message)s", stream=sys.stderr)
+    raise_stack_limit()
     try:
         program = os.fspath(words.program or find_program())
         check_built(program)

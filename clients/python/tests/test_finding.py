@@ -169,6 +169,12 @@ class Finding(OnProgram):
 
         self.assertEqual(run("check", "--why", STMDESK=str(stub)), (3, "check --why\na line\n", ""))
         self.assertEqual(run("--version", STMDESK=str(stub)), (3, "--version\na line\n", ""))
+        stub.write_text("#!/bin/sh\nulimit -S -s >&2\n")
+        for words in (["run"], ["serve", str(self.folder / "socket")]):
+            command = ["sh", "-c", 'ulimit -S -s 1024; exec "$@"', "sh", sys.executable, "-B", "-m", "stmdesk", *words]
+            done = subprocess.run(command, cwd=HERE, capture_output=True, text=True, timeout=SECONDS,
+                                  env={"PATH": "/usr/bin:/bin", "STMDESK": str(stub)})  # fmt: skip
+            self.assertEqual(done.stderr.splitlines()[0], "2048")
         status, printed, said = run("run", STMDESK=str(self.folder / "none"))
         self.assertEqual((status, printed), (1, ""))
         self.assertRegex(said, "^stmdesk: no program to run: STMDESK names .*none")
