@@ -27,13 +27,13 @@ class Function:
 
 
 def first_sentence(text: str, end: int) -> str:
-    """Of the comment `///` that ends before this place, which may have attributes below it."""
+    """Of the comment `///` that ends before this place, which may have attributes and plain comments below it."""
     lines = []
     for line in reversed(text[:end].splitlines()):
         line = line.strip()
         if line.startswith("///"):
             lines.append(line[3:].strip())
-        elif lines or not line.startswith(("#[", "#!")):
+        elif lines or not line.startswith(("#[", "#!", "// ")):
             break
     said = " ".join(reversed(lines)).partition("  ")[0]  # of the first paragraph
     found = re.match(r".*?\.(?= [A-Z`]|$)", said)
