@@ -163,7 +163,8 @@ def judge_sessions(program, words):
 def judge_kept(program, words, name):
     """The text that the launcher prints while nothing is built is the program's."""
     printed = transcript.run(program, of(words)).stdout.decode()
-    return None if printed == (HELP_TEXTS / f"{name}.txt").read_text() else f"docs/help/{name}.txt isn't what the program prints"
+    is_kept = printed == (HELP_TEXTS / f"{name}.txt").read_text()
+    return None if is_kept else f"docs/help/{name}.txt isn't what the program prints: tools/help --write, once that is right"
 
 
 def judge_version(program, words):
