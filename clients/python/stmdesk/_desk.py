@@ -148,7 +148,7 @@ class Desk:
             opened = Answer(TVAR)
             self._perform((opened,))
             process.is_opening = False
-            dropped = _DROPPED.search(process.said())
+            dropped = _DROPPED.search(process.said_so_far())
             self._dropped = int(dropped[1]) if dropped else 0
             if isinstance(opened.error, Refused) and opened.error.name == "Late":
                 store = Answer(STORE)

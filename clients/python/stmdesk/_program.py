@@ -301,18 +301,18 @@ class Process(OwnTransport):
                     self._input.close()
                 with suppress(OSError):
                     self._output.close()
-                said = self.said()
+                said = self.said_so_far()
                 is_of_journal = JOURNAL_FAULT in said or (self.is_opening and status in (1, 3))
                 self.end = self._how = (JournalError if is_of_journal else Ended)(status, said)
                 self._errors.close()
             return self._how
 
     def said_at_last(self) -> str:
-        """What `said` returns, also after the program has ended."""
+        """What `said_so_far` returns, also after the program has ended."""
         with self._ending:
-            return self._how.said if self._how is not None else self.said()
+            return self._how.said if self._how is not None else self.said_so_far()
 
-    def said(self) -> str:
+    def said_so_far(self) -> str:
         """The end of what the program wrote on standard error so far."""
         file = self._errors.fileno()  # whose position is the program's, too
         return os.pread(file, SAID_LIMIT, max(0, os.fstat(file).st_size - SAID_LIMIT)).decode("utf-8", "replace").strip()
