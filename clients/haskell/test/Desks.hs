@@ -6,12 +6,15 @@ import Control.Concurrent
 import Control.Exception
 import Control.Monad (forM, forM_, replicateM, replicateM_, unless, void, when)
 import qualified Data.ByteString.Char8 as Bytes
+import Data.List (intercalate, isInfixOf)
 import Stmdesk
 import Stmdesk.Explore
 import qualified Stmdesk.Refusal as Refusal
 import System.Directory
 import System.Exit (ExitCode (..))
-import System.FilePath ((</>))
+import System.FilePath (takeDirectory, (</>))
+import System.Posix.Env (getEnv, setEnv, unsetEnv)
+import System.Posix.Resource (Resource (ResourceStackSize), ResourceLimit (ResourceLimit), getResourceLimit, setResourceLimit, softLimit)
 import System.Process (readProcessWithExitCode)
 import System.Timeout (timeout)
 
@@ -330,14 +333,62 @@ desks path =
       status `is` ExitFailure 1
   , test "no program" $ inFolder $ \folder -> do
       it <- try (withDesk options {program = Just (folder </> "none")} eval) :: IO (Either IOException Int)
-      either (const True) (const False) it `is` True
+      either (("this is no executable file" `isInfixOf`) . show) (const False) it `is` True
       Ended status _ <- throws (withDesk options {workers = Just 65} eval)
       status `is` ExitFailure 2
-      createDirectoryIfMissing True (folder </> "crates" </> "stmdesk")
-      script <- standIn folder ["cat >/dev/null"]
-      renameFile script (folder </> "stmdesk")
-      NoProgram _ <- throws (withDesk options {program = Just (folder </> "stmdesk")} eval)
-      pure ()
+  , test "where the program is found" $ inFolder $ \above' -> withFoundFirst [] $ do
+      let folder = above' </> "some places, naïve"
+          repository = folder </> "clone"
+          ticketOf given = withDesk defaults {program = given} (\desk -> ticketNumber <$> submit desk (retry :: Block ()))
+          finds place number = do
+            findProgram Nothing >>= (`is` place)
+            ticketOf Nothing >>= (`is` number)
+          inside = withCurrentDirectory (repository </> "crates")
+      [given, named, onPath, built] <- mapM (\(name, n) -> ticketing (folder </> name) n) (zip ["given", "named", "path", "built"] [1 ..])
+      launcher <- launching repository (Left "")
+      withCurrentDirectory folder (missing ["no path is given", "STMDESK isn't set", "no folder above " ++ folder ++ " or ", "PATH"] (ticketOf Nothing))
+      -- a repository without a program, and one in it, too
+      _ <- launching repository (Left "stmdesk: it isn't built")
+      inside (missing [repository ++ " has none (stmdesk: it isn't built)", "no folder of the PATH"] (ticketOf Nothing))
+      inner <- takeDirectory <$> launching (repository </> "crates" </> "inner") (Left "stmdesk: nor is this one")
+      withCurrentDirectory inner (missing [inner ++ " has none (stmdesk: nor", repository ++ " has none (stmdesk: it"] (ticketOf Nothing))
+      withFoundFirst [folder </> "path"] (inside (finds onPath 3))
+      -- one with a program
+      _ <- launching repository (Right built)
+      withFoundFirst [folder </> "path"] $ do
+        withCurrentDirectory inner (finds built 4)
+        inside $ do
+          finds built 4
+          setEnv "STMDESK" "" True >> finds built 4
+          setEnv "STMDESK" "stmdesk" True >> finds onPath 3
+          setEnv "STMDESK" "../../named/stmdesk" True >> ticketOf Nothing >>= (`is` 2)
+          setEnv "STMDESK" named True >> finds named 2
+          ticketOf (Just given) >>= (`is` 1)
+          ticketOf (Just "../../given/stmdesk") >>= (`is` 1)
+          ticketOf (Just "stmdesk") >>= (`is` 3)
+          forM_ [folder, folder </> "none", "none", "../none"] $ \no ->
+            setEnv "STMDESK" no True >> missing ["STMDESK names " ++ show no ++ ", which isn't"] (ticketOf Nothing)
+          -- the script raises a limit of the stack that is too low, and the program doesn't
+          unsetEnv "STMDESK"
+          limits <- getResourceLimit ResourceStackSize
+          (`finally` setResourceLimit ResourceStackSize limits) $ do
+            setResourceLimit ResourceStackSize limits {softLimit = ResourceLimit (1024 * 1024)}
+            findProgram Nothing >>= (`is` launcher)
+  , test "a repository whose program isn't there" $ inFolder $ \folder -> withFoundFirst [folder </> "clone"] $ do
+      launcher <- launching (folder </> "clone") (Left "stmdesk: release/ was made from other sources")
+      let refuses given = do
+            missing [folder </> "clone", "release/ was made from other sources"] (withDesk defaults {program = given} eval)
+            missing ["other sources"] (explore everyOrder {exploreProgram = given} (Protocol [] [] []))
+      mapM_ refuses [Nothing, Just launcher, Just "stmdesk"]
+      createFileLink launcher (folder </> "link")
+      refuses (Just (folder </> "link"))
+      forM_ ["stmdesk", launcher, folder </> "link"] $ \named -> setEnv "STMDESK" named True >> refuses Nothing
+      unsetEnv "STMDESK"
+      setPermissions launcher . setOwnerExecutable False =<< getPermissions launcher
+      withCurrentDirectory (folder </> "clone") (missing [folder </> "clone has none ("] (withDesk defaults eval))
+      -- a script that doesn't know the question
+      _ <- scriptAt launcher ["cat >/dev/null"]
+      missing [folder </> "clone has none"] (withDesk defaults {program = Just launcher} eval)
   , test "clients in threads of GHC's" $ do
       vars <- newVars [declaration x, declaration y]
       let waits = Client "waits" [step "wait" (atLeast 5)]
@@ -433,8 +484,43 @@ inFolder = bracket made removePathForcibly
 
 -- | A shell script that stands in for the program.
 standIn :: FilePath -> [String] -> IO FilePath
-standIn folder lines' = do
-  let file = folder </> "program"
+standIn folder = scriptAt (folder </> "program")
+
+scriptAt :: FilePath -> [String] -> IO FilePath
+scriptAt file lines' = do
   writeFile file (unlines ("#!/bin/sh" : lines'))
   setPermissions file . setOwnerExecutable True =<< getPermissions file
   pure file
+
+-- | A program in a folder that gives this ticket to the first block.
+ticketing :: FilePath -> Int -> IO FilePath
+ticketing folder number = do
+  createDirectoryIfMissing True folder
+  scriptAt (folder </> "stmdesk") ["read line", "echo ticket " ++ show number]
+
+-- | The script of a repository with a release, which says where its program is, or why there is none, and runs all commands at the end of
+-- its input.
+launching :: FilePath -> Either String FilePath -> IO FilePath
+launching repository which = do
+  mapM_ (createDirectoryIfMissing True . (repository </>)) ["crates/stmdesk", "release"]
+  writeFile (repository </> "release" </> "stmdesk.xz") ""
+  scriptAt (repository </> "stmdesk") ["[ \"$*\" = --which ] || { cat >/dev/null; exit; }", said]
+  where
+    said = either (\why' -> "echo \"" ++ why' ++ "\" >&2; exit 1") (\path -> "echo '" ++ path ++ "'") which
+
+-- | Does something with these folders at the front of the @PATH@, and without @STMDESK@.
+withFoundFirst :: [FilePath] -> IO a -> IO a
+withFoundFirst folders act = bracket (mapM (\name -> (,) name <$> getEnv name) ["PATH", "STMDESK"]) (mapM_ restore) $ \_ -> do
+  setEnv "PATH" (intercalate ":" (folders ++ ["/usr/bin", "/bin"])) True
+  unsetEnv "STMDESK"
+  act
+  where
+    restore (name, it) = maybe (unsetEnv name) (\before -> setEnv name before True) it
+
+-- | Looks for these parts in why there is no program.
+missing :: [String] -> IO a -> IO ()
+missing parts act = do
+  it <- throws act
+  case it of
+    NoProgram places -> forM_ parts (\part -> (part, part `isInfixOf` places, places) `is` (part, True, places))
+    other -> throwIO other
