@@ -314,6 +314,15 @@ desks path =
       answering <- standIn folder ["for a in 'ticket 1' 'evaluated 1' 'refused Blocks'; do read line; echo $a; done", "sleep 0.2"]
       withDesk options {program = Just answering} $ \desk ->
         throws (atomically desk (retry :: Block ())) >>= (`is` Ended ExitSuccess "")
+  , test "a program that ends with an error, seen by no call" $ inFolder $ \folder -> do
+      let inFolder' = options {journal = Just folder}
+      Ended status said <- throws (withDesk inFolder' pure)
+      (status == ExitSuccess, folder `isInfixOf` said) `is` (False, True)
+      -- what a call has thrown isn't thrown again
+      withDesk inFolder' (throws . eval) >>= (`is` Ended status said)
+      throws (withDesk inFolder' (const (throwIO (userError "mine"))) :: IO ()) >>= (`is` userError "mine")
+      atLast <- standIn folder ["read line", "echo evaluated 0", "cat >/dev/null", "echo 'no room, naïve' >&2", "exit 3"]
+      throws (withDesk options {program = Just atLast} eval) >>= (`is` Ended (ExitFailure 3) "no room, naïve")
   , test "a program that is another one" $ inFolder $ \folder -> do
       let never' = ["hello", "evaluated", "evaluated x", "evaluated 1 2", "cells 1", "#0 x", "7 new", "{}", "", "waiting x", "refused"]
       forM_ never' $ \said -> do

@@ -15,7 +15,7 @@ import Control.Concurrent (MVar, forkIO, newEmptyMVar, putMVar, readMVar, tryPut
 import Control.Concurrent.STM (TQueue, TVar, check, flushTQueue, newTQueueIO, newTVarIO, orElse, readTVar, throwSTM, writeTQueue, writeTVar)
 import qualified Control.Concurrent.STM as STM
 import Control.Exception
-import Control.Monad (forM_, unless, void, when)
+import Control.Monad (forM_, void, when)
 import Data.ByteString.Char8 (ByteString)
 import qualified Data.ByteString.Char8 as Bytes
 import Data.Char (isDigit)
@@ -32,6 +32,7 @@ import Stmdesk.Program
 import Stmdesk.Refusal (Refusal (Late))
 import qualified Stmdesk.Refusal as Refusal
 import Stmdesk.Text (Declaring (..), Limit (TooLarge), render, renderDeclaration)
+import System.Exit (ExitCode (..))
 import System.Timeout (timeout)
 
 -- | A running desk. Any number of threads may use it. A call that an asynchronous exception breaks off may or may not have had its
@@ -39,6 +40,7 @@ import System.Timeout (timeout)
 data Desk = Desk
   { requests :: TQueue Request
   , over :: TVar (Maybe SomeException)  -- ^ What a call throws, when the desk is over.
+  , isThrown :: TVar Bool  -- ^ Whether a call has thrown it.
   , closing :: TVar Bool
   , names :: IORef Names
   , keepsFile :: Bool
@@ -74,7 +76,8 @@ patience :: Int
 patience = 5000000
 
 -- | Starts the program, does the body with a desk, and ends the program, however the body ends. If the body throws, the program is
--- killed; if it returns, the program has five seconds to end. Calls that other threads still make then throw 'Closed'.
+-- killed; if it returns, the program has five seconds to end. Calls that other threads still make then throw 'Closed'. If the program
+-- ended with an error that no call has thrown, as when it couldn't open the journal, 'Ended' is thrown in place of what the body returns.
 --
 -- >>> withDesk defaults (\desk -> do { x <- declareVar desk (variable "x" 1); store desk })
 -- [Cell {variableOf = Ref 0 (Just "x"), kindOf = "Int", valueNow = IntValue 1, changes = 0}]
@@ -98,14 +101,18 @@ withDesk options body = do
 withTransport :: Bool -> IO Transport -> (Desk -> IO a) -> IO a
 withTransport keeps start body = mask $ \restore -> do
   transport <- start
-  desk <- Desk <$> newTQueueIO <*> newTVarIO Nothing <*> newTVarIO False <*> newIORef IntMap.empty <*> pure keeps
+  desk <- Desk <$> newTQueueIO <*> newTVarIO Nothing <*> newTVarIO False <*> newTVarIO False <*> newIORef IntMap.empty <*> pure keeps
   done <- newEmptyMVar
-  _ <- forkIO (serve desk transport `finally` putMVar done ())
+  _ <- forkIO (serve desk transport `onException` putMVar done Nothing >>= putMVar done)
   let close = STM.atomically (writeTVar (closing desk) True) >> readMVar done
       abandon = kill transport >> uninterruptibleMask_ close
   it <- restore (body desk) `onException` abandon
   ended <- timeout patience close `onException` abandon
-  it <$ unless (isJust ended) abandon
+  known <- STM.readTVarIO (isThrown desk)
+  case ended of
+    Nothing -> it <$ abandon
+    Just (Just end) | not known -> throwIO end
+    _ -> pure it
 
 -- Commands.
 
@@ -371,7 +378,7 @@ history desk = Bytes.unlines <$> askLines False desk "history"
 atomically :: forall r. Result r => Desk -> Block r -> IO (Returned r)
 atomically desk block = await desk (fmap Just) block >>= maybe (throwIO Cancelled) pure
 
--- | The same, for at most so many microseconds: 'Nothing' if the block couldn't finish. Then it had no effect. It is tried at least once.
+-- | The same, for at most this many microseconds: 'Nothing' if the block couldn't finish. Then it had no effect. It is tried at least once.
 --
 -- >>> withDesk defaults (\desk -> atomicallyWithin desk 1000 (retry :: Block ()))
 -- Nothing
@@ -428,7 +435,10 @@ data Wait = Wait
   }
 
 enqueue :: Desk -> Request -> IO ()
-enqueue desk request = STM.atomically (readTVar (over desk) >>= maybe (writeTQueue (requests desk) request) throwSTM)
+enqueue desk request = STM.atomically (readTVar (over desk) >>= maybe given isOver) >>= mapM_ throwIO
+  where
+    given = Nothing <$ writeTQueue (requests desk) request
+    isOver why' = Just why' <$ writeTVar (isThrown desk) True
 
 -- | The blocks of 'atomically'. A ticket that isn't due blocks on the present store: the last try to finish it, right after an evaluation,
 -- was refused as that, and no finish since then has named it as stale. So no change is missed, and nobody polls.
@@ -458,25 +468,30 @@ instance Exception AtEnd
 -- | A line with what to do with its answer.
 type Item = (ByteString, [ByteString] -> IO ())
 
--- | Answers requests until the desk is closed or can't go on.
-serve :: Desk -> Transport -> IO ()
+-- | Answers requests until the desk is closed or can't go on. Returns how the program ended, if that was by itself and with an error.
+serve :: Desk -> Transport -> IO (Maybe DeskError)
 serve desk transport = do
   console <- Console transport <$> newIORef Bytes.empty <*> newIORef (Waits IntMap.empty IntSet.empty IntSet.empty False Nothing Nothing)
     <*> newIORef [] <*> pure (names desk)
   stop <- try (work desk console)
-  why' <- case stop of
-    Right () -> toException Closed <$ ending patience
+  (why', status) <- case stop of
+    Right () -> (,) (toException Closed) <$> ending patience
     Left error'
       | Just AtEnd <- fromException error' -> ended <$> ending patience
       | Just (_ :: IOException) <- fromException error' -> ended <$> ending patience
-      | otherwise -> error' <$ kill transport <* ending 0
+      | otherwise -> (,) error' (ExitSuccess, "") <$ kill transport <* ending 0
   left <- STM.atomically (writeTVar (over desk) (Just why') >> flushTQueue (requests desk))
   inWork <- readIORef (asked console)
   waiting <- IntMap.elems . byTicket <$> readIORef (waits console)
-  mapM_ (fail' why') (inWork ++ map Await waiting ++ left)
+  let failing = inWork ++ map Await waiting ++ left
+  when (either (const True) (const False) stop && not (null failing)) (STM.atomically (writeTVar (isThrown desk) True))
+  mapM_ (fail' why') failing
+  pure $ case status of
+    (code@(ExitFailure number), said) | number > 0 -> Just (Ended code said)  -- not by a signal
+    _ -> Nothing
   where
     ending limit = endInput transport >> awaitEnd transport limit
-    ended (status, said) = toException (Ended status said)
+    ended it@(status, said) = (toException (Ended status said), it)
     fail' error' request = void $ case request of
       Ask _ _ answer -> tryPutMVar answer (Left error')
       Await wait -> tryPutMVar (outcomeOf wait) (Left error')
