@@ -223,6 +223,7 @@ desks path =
   , test "a wait with a limit" $ on $ \desk -> do
       _ <- declareVar desk x
       atomicallyWithin desk 1000 (atLeast 5) >>= (`is` Nothing)
+      forM_ [0, -1, minBound] $ \none -> atomicallyWithin desk none (atLeast 5) >>= (`is` Nothing)
       atomicallyWithin desk 0 (modifyVar x (+ 1)) >>= (`is` Just ())
       atomicallyWithin desk 60000000 (atLeast 2) >>= (`is` Just 2)
       throws (atomicallyWithin desk 60000000 (throwInt 4 :: Block ())) >>= (`is` Thrown 4)

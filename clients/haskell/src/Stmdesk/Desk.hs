@@ -378,12 +378,13 @@ history desk = Bytes.unlines <$> askLines False desk "history"
 atomically :: forall r. Result r => Desk -> Block r -> IO (Returned r)
 atomically desk block = await desk (fmap Just) block >>= maybe (throwIO Cancelled) pure
 
--- | The same, for at most this many microseconds: 'Nothing' if the block couldn't finish. Then it had no effect. It is tried at least once.
+-- | The same, for at most this many microseconds: 'Nothing' if the block couldn't finish. Then it had no effect. It is tried at least once,
+-- and no more than that if the number isn't positive.
 --
 -- >>> withDesk defaults (\desk -> atomicallyWithin desk 1000 (retry :: Block ()))
 -- Nothing
 atomicallyWithin :: Result r => Desk -> Int -> Block r -> IO (Maybe (Returned r))
-atomicallyWithin desk limit = await desk (timeout limit)
+atomicallyWithin desk limit = await desk (timeout (max 0 limit))
 
 -- | Gives a block to the desk and waits for its outcome, by a function that may give the waiting up.
 await
