@@ -356,7 +356,8 @@ desks path =
           inside = withCurrentDirectory (repository </> "crates")
       [given, named, onPath, built] <- mapM (\(name, n) -> ticketing (folder </> name) n) (zip ["given", "named", "path", "built"] [1 ..])
       launcher <- launching repository (Left "")
-      withCurrentDirectory folder (missing ["no path is given", "STMDESK isn't set", "no folder above " ++ folder ++ " or ", "PATH"] (ticketOf Nothing))
+      let looked = ["no path is given", "STMDESK isn't set", "no folder above " ++ folder ++ " or ", "no folder of the PATH"]
+      withCurrentDirectory folder (missing looked (ticketOf Nothing))
       -- a repository without a program, and one in it, too
       _ <- launching repository (Left "stmdesk: it isn't built")
       inside (missing [repository ++ " has none (stmdesk: it isn't built)", "no folder of the PATH"] (ticketOf Nothing))

@@ -27,7 +27,8 @@ import System.Exit (ExitCode)
 data Value = IntValue Int | BoolValue Bool | UnitValue | RefValue Ref
   deriving (Eq, Ord, Show)
 
--- | The number under which a block waits, and of which type its result will be. One that came from the program has 'Value's.
+-- | The number under which a block waits, and of which type its result will be. One that came from the program has 'Value's. It is for the
+-- desk that gave it: another desk takes it for its own ticket of this number.
 data Ticket a = Ticket
   { ticketNumber :: Int  -- ^ Its number.
   , readResult :: Value -> Maybe a  -- ^ The result as one of its type.
