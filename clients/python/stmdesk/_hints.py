@@ -13,6 +13,7 @@ _OPERATORS = {"+", "-", "*", "&&", "||"} | _COMPARISONS
 _TAKE_VALUE = {"return", "throw", "newTVar", "readTVar"}
 _ACTIONS = _TAKE_VALUE | {"writeTVar", "retry", "orElse", "catch", "do", "if"}
 _RESERVED = _ACTIONS | {"let", "then", "else", "True", "False", "Int", "Bool", "TVar"}
+_PARTS = {"if", "then", "else", ";", "{", "}"}  # words that no condition has
 _BEGIN_ACTION = {"", "{", ";", "then", "else", "<-", "("}
 _LIST = "return, readTVar, writeTVar, newTVar, retry, throw, orElse, catch, if, do or a bracket"
 
@@ -58,6 +59,9 @@ _BYTES = {
     "/=": "there is no `/=`: write `(a == b) == False`",
     "!=": "there is no `!=`: write `(a == b) == False`",
     "/": "there is no division",
+    "//": "there is no division, and a block has no comments",
+    "/*": "a block has no comments",
+    "# ": "a block has no comments",
     "%": "there is no division",
     "`": "there are no infix words: write `orElse (a) (b)`",
     "$": "there is no `$`: write brackets",
@@ -129,7 +133,7 @@ _SCRIPT_NAMES = {
 _LINES = "tvar always never eventually client submit finish throws cancel expect assert choose repeat".split()
 _OTHER_LINES = {
     "atomic": "every block is atomic: `submit BLOCK`",
-    "await": "a block waits by `retry`: `submit do { a <- readTVar x; if a == 1 then retry else return () }`",
+    "await": "a block waits by `retry`: `submit do { a <- readTVar x; if a == 1 then return () else retry }`",
     "byte": "write `tvar NAME : Int = 0`",
     "bool": "write `tvar NAME : Bool = False`",
     "declare": "write `tvar NAME : TYPE = INIT`",
@@ -201,10 +205,10 @@ def hint(
 def script_hint(reason: str, place: int | None, word: str, text: str, types: Mapping[str, str]) -> str | None:
     """The hint for the reason why a line of a script with this word and argument is invalid, or None. `types` has the variables that are
     declared before, with their types."""
+    negative = re.search(r"\s-(\d+)", text) if (reason, word) in (("Argument", "choose"), ("Unexpected", "expect")) else None
+    if negative:
+        return f"a negative number needs brackets: write `(-{negative[1]})`"
     if reason == "Argument" and word == "choose":
-        negative = re.search(r"\s-(\d+)", text)
-        if negative:
-            return f"a negative number needs brackets: write `(-{negative[1]})`"
         return "`choose` takes a declared variable and 1 to 16 values of its type, parted by blanks, no two the same"
     if reason == "Argument" and word == "repeat":
         return "`repeat` stands alone, at the end of a section with a step: a `finish`, an `expect`, an `assert` or a `choose`"
@@ -329,8 +333,12 @@ class _Tokens:
         return bool(found) and self.words[found[-1]] == "{"
 
     def _is_in_condition(self) -> bool:
-        """Whether the place is between an `if` and its `then`."""
-        return next((it == "if" for it in reversed(self.words[: self.at]) if it in ("if", "then", "else", ";", "{")), False)
+        """Whether the place is after an `if` without its `then`."""
+        return next((it == "if" for it in reversed(self.words[: self.at]) if it in _PARTS), False)
+
+    def _lacks_then(self) -> bool:
+        """Whether the condition at the place ends without a `then`."""
+        return self._is_in_condition() and next((it for it in self.words[self.at :] if it in _PARTS), "") != "then"
 
     def _lacks_else(self) -> bool:
         """Whether in the innermost brackets around the place an `if` has no `else` yet."""
@@ -405,8 +413,9 @@ class _Tokens:
             return f"only a number can follow `(-`: write `(0 - {self.word})`"
         if self.word not in _OPERATORS:
             return None
-        if self.word in ("+", "-", "*") and self.after == "=":
-            return f"there is no `{self.word}=`: write `a <- readTVar x; writeTVar x (a {self.word} 1)`"
+        if self.word + self.after in ("+=", "-=", "*=", "++"):
+            amount = "1" if self.after == "+" else "b"
+            return f"there is no `{self.word}{self.after}`: write `a <- readTVar x; writeTVar x (a {self.word} {amount})`"
         hyphened = self._hyphened(self.at)
         if hyphened:
             return hyphened
@@ -426,6 +435,8 @@ class _Tokens:
         variable = self._atom_before(atom)
         if variable is not None and self._get(variable - 1) == "writeTVar":
             return f"`writeTVar` takes one value: write `{self._source(variable - 1, atom)} ({self._expression(atom)})`"
+        if head == "let":
+            return "`let` names a value: `let a = ..`"
         if head in ("", "{", ";", "then", "else"):
             return f"a value is no action: write `return ({self._expression(atom)})`"
         if self.word in _COMPARISONS:
@@ -440,10 +451,10 @@ class _Tokens:
             return "`do` needs braces and semicolons: `do { a <- readTVar x; return a }`"
         if self.word == "}" and self.before in (";", "{"):
             return "no `;` comes after the last action" if self.before == ";" else "`do` needs an action: `do { return () }`"
-        if self._is_in_condition() and self._atom_before(self.at) is not None and self.word not in _OPERATORS | set("=<-)"):
+        if self._lacks_then() and self._atom_before(self.at) is not None and self.word not in _OPERATORS | set("=<-)"):
             return "`if` needs `then` and `else`, and no braces: `if a then b else c`"
         if self.before in _TAKE_VALUE and self.word in (";", "}", ")", "else"):
-            return f"`{self.before}` takes one value: `{self.before} ()`" if self.before == "return" else None
+            return f"`{self.before}` takes one value" + (": `return ()`" if self.before == "return" else "")
         begin = self._atom_before(self.at)
         around = self._get(begin - 1) if begin is not None and self.before == ")" else self.before
         is_infix = self.word == "orElse" and self.before not in _BEGIN_ACTION
@@ -460,11 +471,21 @@ class _Tokens:
     def _unclosed(self) -> str | None:
         """The innermost bracket or brace that is open, if the token doesn't close it."""
         found = self._open()
-        if not found:
-            return f"no bracket is open that `{self.word}` could close" if self.word in ("}", ")") else None
-        bracket = self.words[found[-1]]
-        closes = bracket + self.word in ("()", "{}") or bracket == "{" and self.word == ";"
-        return None if closes else f"the `{bracket}` at {self.spans[found[-1]][0]} isn't closed"
+        if self.word in ("}", ")") and {"}": "{", ")": "("}[self.word] not in (self.words[it] for it in found):
+            return f"no bracket is open that `{self.word}` could close"
+        bracket = self.words[found[-1]] if found else ""
+        if not bracket or bracket + self.word in ("()", "{}", "{;") or bracket == "(" and self._is_closed():
+            return None
+        return f"the `{bracket}` at {self.spans[found[-1]][0]} isn't closed"
+
+    def _is_closed(self) -> bool:
+        """Whether a bracket that is open at the place is closed after it."""
+        depth = 1
+        for word in self.words[self.at :]:
+            depth += (word in "({") - (word in ")}")
+            if not depth:
+                return word == ")"
+        return False
 
     def _statement(self) -> str | None:
         """Statements that aren't in a `do`, or that no `;` separates."""
@@ -473,10 +494,14 @@ class _Tokens:
         ends = self._atom_before(self.at) is not None or self.before in ("}", "retry")
         if begins and ends and self._is_in_do():
             return f"a `;` is missing before `{self.word}`"
+        if self.word == ";" and (self.before in (";", "{") or not self.after):
+            return "a `;` comes only between two actions"
+        if self.word == ";" and self._get(self.at - 2) == "let":
+            return f"`let` names a value: `let {self.before} = ..`"
         if self.word == ";" or begins and (ends or names_result or self.word == "let"):
             return "several actions need a `do`: `do { a <- readTVar x; writeTVar x (a + 1); return a }`"
         if self.word == "=" and self._is_in_condition():
-            return "`==` compares: write `a == b`"
+            return "write `<=`" if self.after == "<" else "`==` compares: write `a == b`"
         if self.word == "<-" and self._get(self.at - 2) == "let":
             return f"`let` names a value: leave it out, `{self.before} <- {self.after} ..`"
         if self.word in ("=", ":") and self._is_name(self.before):
@@ -492,7 +517,8 @@ class _Tokens:
         if self.word in _ACTIONS and (is_written or head in _OPERATORS | _TAKE_VALUE | {"=", "if", "writeTVar"}):
             if self.word == "if":
                 return "`if` chooses between actions: write `if a then return b else return c`"
-            return f"`{self.word}` is an action, not a value: bind its result first, `a <- {self.word} ..`"
+            bind = "" if self.word in ("retry", "throw") else f": bind its result first, `a <- {self.word} ..`"
+            return f"`{self.word}` is an action, not a value{bind}"
         if self.before == "<-":
             return f"`<-` names the result of an action; write `let {self._get(self.at - 2)} = ..` to name a value"
         is_capital = self.word[:1].isupper() and self.word not in _RESERVED

@@ -445,6 +445,17 @@ class Explorations(OnProgram):
                 "choose x 2 -1",
                 "hint: a negative number needs brackets: write `(-1)`",
             ),
+            "client\nexpect x -1\n": (
+                "line 4 of the script is refused: Unexpected 2",
+                "expect x -1",
+                9 * " " + "^",
+                "hint: a negative number needs brackets: write `(-1)`",
+            ),
+            "client\nawait x == 1\n": (
+                "line 4 of the script is refused: Command",
+                "await x == 1",
+                "hint: a block waits by `retry`: `submit do { a <- readTVar x; if a == 1 then return () else retry }`",
+            ),
             "client\nsubmit do {\nwriteTVar x 1\n}\n": (
                 "line 4 of the script is refused: EndOfText",
                 "submit do {",

@@ -243,6 +243,24 @@ MISTAKES = {
     "do { a <- readTVar x; while a < 3 do retry }": ("Unexpected", 28, "there are no loops"),
     "writeTVar x (readTVar x + 1)": ("Unexpected", 13, "bind its result first, `a <- readTVar ..`"),
     "throw NotFound": ("Unexpected", 6, "what is thrown is a number"),
+    "do { a <- readTVar x; a *= 2; return a }": ("Unexpected", 24, "there is no `*=`: write `a <- readTVar x; writeTVar x (a * b)`"),
+    "do { a <- readTVar x; writeTVar x a++ }": ("Unexpected", 35, "there is no `++`: write `a <- readTVar x; writeTVar x (a + 1)`"),
+    "do { a <- readTVar x; if a =< 1 then retry else return a }": ("Unexpected", 27, "write `<=`"),
+    "return 7 // 2": ("BadByte", 9, "there is no division, and a block has no comments"),
+    "do { return 1 # a comment": ("BadByte", 14, "a block has no comments"),
+    # What is there isn't missed.
+    "do { a <- readTVar x; if even a then retry else return a }": ("Unexpected", 30, None),
+    "do { a <- readTVar x; if (a == 1) (a == 2) then retry else return a }": ("Unexpected", 34, None),
+    "do { a <- readTVar x; if a == 1) then retry else return a }": ("Unexpected", 31, "no bracket is open that `)` could close"),
+    "if True then (writeTVar x 1; return 1) else retry": ("Unexpected", 27, "need a `do`"),
+    "do { let a = (1 + 2; return a }": ("Unexpected", 19, "the `(` at 13 isn't closed"),
+    "writeTVar x (retry)": ("Unexpected", 13, "`retry` is an action, not a value"),
+    "do { writeTVar x 1;; return 1 }": ("Unexpected", 19, "a `;` comes only between two actions"),
+    "do { ; return 1 }": ("Unexpected", 5, "a `;` comes only between two actions"),
+    "return 1;": ("Unexpected", 8, "a `;` comes only between two actions"),
+    "do { r <- newTVar; return r }": ("Unexpected", 17, "`newTVar` takes one value"),
+    "do { let a; return 1 }": ("Unexpected", 10, "`let` names a value: `let a = ..`"),
+    "do { let a == 1; return a }": ("Unexpected", 11, "`let` names a value: `let a = ..`"),
 }  # fmt: skip
 WRONG_DECLARATIONS = {
     "b : Bool = true": ("Unknown", 11, "write `True`"),
@@ -277,7 +295,10 @@ class Hints(OnProgram):
     def assert_hint(self, call, text, name, place, hint):
         refused = self.refused(lambda: call(text))
         self.assertEqual((refused.name, refused.place, refused.text), (name, place, text))
-        self.assertIn(hint, refused.hint)
+        if hint is None:
+            self.assertIsNone(refused.hint)
+        else:
+            self.assertIn(hint, refused.hint)
 
     def test_of_blocks(self):
         desk = self.start()
