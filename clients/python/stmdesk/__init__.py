@@ -86,4 +86,3 @@ if not TYPE_CHECKING:  # else every name would be one of the package
         from importlib import import_module
 
         return import_module(".aio", __name__)
-

@@ -591,8 +591,7 @@ class Desk:
             raise transport.not_owner()
         if self._caller == get_ident():
             raise RuntimeError("a signal handler called the desk in the midst of another call")
-        if timeout is not None:
-            checked_timeout(timeout)
+        timeout = checked_timeout(timeout)
         wait = Wait(block, None if label is None else checked_label(label))
         waits: AtomicBlocks | None = None
         if not transport.keeps_answers:

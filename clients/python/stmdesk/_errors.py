@@ -3,6 +3,7 @@
 from __future__ import annotations
 
 import re
+
 from ._values import Fault, Ref, Settled
 
 _WIDTH = 100  # characters of a line of the caller's text that an error shows

@@ -22,17 +22,19 @@ from ._values import Finished, FinishedThrows, Value, Waiting
 SIGNALS = 1.0  # seconds after which the main thread looks for a signal that it has missed
 
 
-def checked_timeout(timeout: float) -> float:
-    """The timeout. Raises ValueError or TypeError if it is no number of seconds."""
+def checked_timeout(timeout: float | None) -> float | None:
+    """The timeout as a `float`, so that no other kind of number fails later. Raises ValueError or TypeError if it is no number of seconds."""
+    if timeout is None:
+        return None
     try:
-        is_number = not math.isnan(timeout)
+        is_number, seconds = not math.isnan(timeout), float(timeout)  # `float` alone takes texts, too
     except OverflowError:  # an `int` that no `float` holds
-        is_number = True
+        return math.inf if timeout > 0 else -math.inf
     except TypeError:
         raise TypeError(f"a timeout is a number of seconds, and not {timeout!r}") from None
     if not is_number:
         raise ValueError(f"a timeout is a number of seconds, and not {timeout!r}")
-    return timeout
+    return seconds
 
 
 class Wait:

@@ -349,8 +349,7 @@ class Desk:
         >>> run(desk.atomically("do { a <- readTVar x; writeTVar x (a + 1); return a }"))
         1
         """
-        if timeout is not None:
-            checked_timeout(timeout)
+        timeout = checked_timeout(timeout)
         loop = asyncio.get_running_loop()
         over: asyncio.Future[None] = loop.create_future()
         wait = Wait(block, None if label is None else checked_label(label), lambda: _tell(loop, over, None, None))

@@ -3,6 +3,7 @@
 import asyncio
 import collections
 import contextlib
+import decimal
 import os
 import signal
 
@@ -118,6 +119,10 @@ class Asynchronous(OnProgram):
                 with self.assertRaisesRegex(kind, "^a timeout is a number of seconds, and not "):
                     await desk.atomically("writeTVar x 5", timeout=wrong)
             self.assertEqual((await desk.value("x"), (await desk.events()).next), (1, 1))  # nothing was sent
+            for timeout in (decimal.Decimal(5), 10**400):
+                self.assertEqual(await desk.atomically("return 7", timeout=timeout), 7)
+            with self.assertRaises(stmdesk.TimedOut):
+                await desk.atomically("retry", timeout=decimal.Decimal("0.001"))
 
         self.run_on_desk(main)
 

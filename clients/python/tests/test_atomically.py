@@ -2,6 +2,8 @@
 
 import concurrent.futures
 import contextlib
+import decimal
+import fractions
 import gc
 import os
 import signal
@@ -214,6 +216,15 @@ class Atomically(InThreads):
             with self.subTest(timeout=wrong), self.assertRaisesRegex(kind, "^a timeout is a number of seconds, and not "):
                 desk.atomically("writeTVar x 5", timeout=wrong)
         self.assertEqual((desk.value("x"), desk.events().next), (1, 1))  # nothing was sent
+
+    def test_timeouts_of_other_kinds_of_number(self):
+        desk = self.start()
+        for timeout in (decimal.Decimal(5), fractions.Fraction(5), 10**400, True):
+            with self.subTest(timeout=timeout):
+                self.assertEqual(desk.atomically("return 7", timeout=timeout), 7)
+        for timeout in (decimal.Decimal("0.001"), fractions.Fraction(1, 1000), -(10**400)):
+            with self.subTest(timeout=timeout), self.assertRaisesRegex(stmdesk.TimedOut, "within (0.001|-inf) seconds$"):
+                desk.atomically("retry", timeout=timeout)
 
     def test_timeouts_of_many_threads(self):
         desk = self.start()
