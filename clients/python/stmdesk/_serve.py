@@ -530,20 +530,24 @@ def check_path(path: str) -> None:
     if len(os.fsencode(path)) > PATH_LENGTH:
         raise OSError(f"{path}: the path of a socket has at most {PATH_LENGTH} bytes")
     with suppress(FileNotFoundError):
-        if not stat.S_ISSOCK(os.stat(path).st_mode):
+        if not stat.S_ISSOCK(os.lstat(path).st_mode):  # nor is a link to one what a killed server has left
             raise OSError(f"{path}: a file is there that is no socket")
 
 
 def is_listened_on(path: str) -> bool:
-    """Whether a program listens on the socket at the path. Nobody listens on one that a killed server has left."""
+    """Whether a program listens on the socket at the path. Nobody listens on one that a killed server has left. Raises OSError if that can't
+    be known, as of another user's."""
     with socket.socket(socket.AF_UNIX, socket.SOCK_STREAM) as it:
         it.setblocking(False)  # it would wait if as many wait already as the program lets wait
         try:
             it.connect(path)
-        except BlockingIOError:
-            return True
+        except (FileNotFoundError, ConnectionRefusedError):
+            return False
         except OSError as error:
-            return error.errno == errno.EPROTOTYPE  # a socket of another kind
+            if error.errno == errno.EACCES and os.lstat(path).st_uid == os.geteuid():
+                return False  # a server was killed before it gave its socket a mode
+            if error.errno not in (errno.EAGAIN, errno.EPROTOTYPE):  # its queue is full, or it is of another kind
+                raise OSError(error.errno, error.strerror, path) from None
         return True
 
 

@@ -235,7 +235,7 @@ async def serve_replica(words: argparse.Namespace, server: Replica, given: socke
 def main(arguments: Sequence[str] | None = None) -> int:
     found = parser()
     words = found.parse_args(arguments)
-    if words.socket is None and os.environ.get("LISTEN_PID") != str(os.getpid()):
+    if words.socket == "" or words.socket is None and os.environ.get("LISTEN_PID") != str(os.getpid()):
         found.error("the path of a SOCKET is needed")
     if words.sync and not words.journal:
         found.error("--sync goes with --journal")
