@@ -46,20 +46,29 @@ _OUTCOMES = {
 
 
 class _Script:
-    """The lines of a script: what each is, and which client has it."""
+    """The lines of a script that was explored, and what each is."""
 
     def __init__(self, text: str) -> None:
         self.lines = [" ".join(it.split()) for it in one_line(text).split("\n")]
         self.names: list[str] = []  # of the variables, by their number
         self.first: list[str] = []  # their first values
-        self.begins: list[int] = []  # the line, counted from 0, that begins the section of each client
-        for at, line in enumerate(self.lines):
+        self.clients = 0
+        self.blocks: list[str] = []  # of each line: its own, or that of the `submit` that a `finish`, a `throws` or a `cancel` names
+        submits: list[str] = []  # of the section
+        for at in range(len(self.lines)):
             word, rest = self.parts(at)
+            block = rest
             if word == "tvar" and (init := _INIT.fullmatch(rest)):
                 self.names.append(rest.split(":")[0].strip())
                 self.first.append(_value(init[1].strip()))
             elif word == "client":
-                self.begins += [at] * int(rest or "1")
+                self.clients += int(rest or "1")
+                submits = []
+            elif word == "submit":
+                submits.append(rest)
+            elif word in ("finish", "throws", "cancel"):
+                block = submits[int(rest) - 1]
+            self.blocks.append(block)
 
     def parts(self, at: int) -> tuple[str, str]:
         """The word and the argument of a line; nothing of a comment."""
@@ -67,15 +76,8 @@ class _Script:
         return ("", "") if word.startswith("--") else (word, "".join(rest))
 
     def block(self, number: int) -> str:
-        """The block of the line of this number: its own, or that of the `submit` that a `finish` or a `throws` names."""
-        word, rest = self.parts(number - 1)
-        if word not in ("finish", "throws", "cancel") or not rest.isdigit():
-            return rest
-        begin = number - 1
-        while begin and self.parts(begin)[0] != "client":
-            begin -= 1
-        submits = [argument for word, argument in map(self.parts, range(begin, number - 1)) if word == "submit"]
-        return submits[int(rest) - 1] if 0 < int(rest) <= len(submits) else rest
+        """The block of the line of this number."""
+        return self.blocks[number - 1]
 
     def named(self, text: str) -> str:
         """A text of the program with names in place of the numbers of variables."""
@@ -217,7 +219,7 @@ def _variables(head: str, store: dict[int, str], touched: set[int], script: _Scr
 def _clients(found: Exploration, script: _Script) -> list[str]:
     """Where each client is."""
     at, lines = {it.client: it for it in found.clients}, list[str]()
-    for client in range(len(script.begins)):
+    for client in range(script.clients):
         lines += _client(at[client], script) if client in at else [f"  client {client} is at its end"]
     return lines
 

@@ -171,6 +171,18 @@ class Reports(OnProgram):
         self.assertTrue(self.report(many).endswith("  .. and 2 more\n"))
         self.assertEqual(self.report("client"), "right: no order of the steps leads to a fault\n  1 state, 1 of them with every client at its end\n")
 
+    def test_the_block_of_a_step(self):
+        """That of its section, of however many blocks it has."""
+        script = "tvar x : Int = 0\nclient\nsubmit return 1\nsubmit writeTVar x 1\nfinish 2\nclient\nsubmit return 2\n"
+        script += "cancel 1\nsubmit writeTVar x 2\nfinish 2\nexpect x 1\nexpect x 3\n"
+        lines = self.report(script).split("\n")
+        self.assertIn("   1  client 1, line 10: writeTVar x 2", lines)
+        self.assertIn("      writeTVar x 1", [*lines, *self.report(script.replace("expect x 1\n", "")).split("\n")])
+        steps = 3000
+        script = "tvar x : Int = 0\nclient\n" + "".join(f"submit writeTVar x {it}\nfinish {it}\n" for it in range(1, steps + 1)) + "expect x 0\n"
+        lines = self.report(script).split("\n")
+        self.assertEqual(lines[-6:-4], [f"{steps:4}  client 0, line {2 * steps + 2}: writeTVar x {steps}", f"          x: {steps - 1} -> {steps}"])
+
     def test_incomplete(self):
         script = "tvar x : Int = 0\nclient\nsubmit writeTVar x 1\nfinish 1\n"
         self.assertTrue(self.report(script, max_states=1).startswith("incomplete: more states can be reached than may be kept"))
