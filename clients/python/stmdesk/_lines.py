@@ -2,9 +2,11 @@
 
 from __future__ import annotations
 
+import re
 from collections.abc import Callable, Iterator
 
 _BLANKS = " \t\r"
+_BETWEEN = re.compile(f"[{_BLANKS}]+")
 
 
 def one_line(script: str, *, keeps_places: bool = False) -> str:
@@ -18,7 +20,7 @@ def one_line(script: str, *, keeps_places: bool = False) -> str:
     found: list[str] = []
     for begin, end in _spans(lines):
         line = joined(lines[begin:end])
-        found.append(line if keeps_places or end - begin == 1 else " ".join(line.split()))
+        found.append(line if keeps_places or end - begin == 1 else _BETWEEN.sub(" ", line).strip(" "))
         found += [""] * (end - begin - 1)
     return "\n".join(found)
 

@@ -270,13 +270,15 @@ def main(words: Sequence[str], name: str) -> int:
 
 def _main(asked: argparse.Namespace, name: str) -> int:
     try:
-        text = (sys.stdin.buffer.read() if asked.script == "-" else Path(asked.script).read_bytes()).decode("utf-8", "replace")
+        script = sys.stdin.buffer.read() if asked.script == "-" else Path(asked.script).read_bytes()
     except OSError as error:
         print(f"{name}: {asked.script}: {os.strerror(error.errno or 0)}", file=sys.stderr)
         return 1
-    if asked.plain:
-        print(one_line(text), end="", flush=True)
+    if asked.plain:  # byte for byte, but for the blocks
+        sys.stdout.buffer.write(one_line(script.decode(errors="surrogateescape")).encode(errors="surrogateescape"))
+        sys.stdout.flush()
         return 0
+    text = script.decode(errors="replace")
     has_ended = threading.Event()
     if sys.stderr.isatty():
         threading.Thread(target=_say_progress, args=(name, has_ended), daemon=True).start()

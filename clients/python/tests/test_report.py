@@ -232,6 +232,8 @@ client 2
         self.assertEqual({at: it for at, it in enumerate(plain, 1) if it}, said)
         lines = self.LAYED_OUT.split("\n")
         self.assertEqual(placed[6], "\n".join(lines[6:14]).replace("-- adds 1 } (", " " * 13).replace("\n", " "))
+        strange = "\x0b\x0c\x1c\x85\xa0\u2028"  # blanks of Python, and none of the program
+        self.assertEqual(one_line(f"a {{\n {strange} \t b }}"), f"a {{ {strange} b }}\n")
         for text in ("", "\n", "client\nsubmit retry\nfinish 1\n", "-- a { comment\n  client\n", "a {\nb\n", "  a {\n  b\n b }\n", "} )\n  a\n", "a (", "a (\n\n"):
             self.assertEqual(one_line(text), text)
         for text, plain, placed in (("a (\n\n)\nb", "a ( )\n\n\nb", "a (  )\n\n\nb"), ("\ta {\r\n\t\tb\r\n}\r\nc", "a { b }\n\n\nc", "\ta {\r \t\tb\r }\r\n\n\nc")):
@@ -311,9 +313,15 @@ class Command(OnProgram):
             file = pathlib.Path(folder) / "script.stm"
             file.write_bytes(b"tvar x : Int = 0\r\n-- \xc3\xa4 \xff\r\nclient\r\nsubmit writeTVar x 1\r\nfinish 1\r\n")
             self.assertEqual(self.ran(file).returncode, 0)
-            file.write_bytes(b"client\nsubmit return \xc3\xa4\n")
-            done = self.ran(file)
-            self.assertEqual((done.returncode, done.stderr.split(":", 1)[1].split("\n")[0]), (1, "2: NotAscii"))
+            for block in (b"return \xc3\xa4", b"do {\n return\xc2\xa0() }"):
+                file.write_bytes(b"client\nsubmit " + block + b"\n")
+                done = self.ran(file)
+                self.assertEqual((done.returncode, done.stderr.split(":", 1)[1].split("\n")[0]), (1, "2: NotAscii"))
+            script = b"-- \xc3\xa4 \xff\r\nclient\r\n submit (\n  retry)\r\n"
+            file.write_bytes(script)
+            command = [sys.executable, REPOSITORY / "tools" / "explore", "--plain", file]
+            done = subprocess.run(command, capture_output=True, timeout=SECONDS, env=os.environ | {"PYTHONIOENCODING": "ascii"})
+            self.assertEqual((done.returncode, done.stdout, done.stderr), (0, b"-- \xc3\xa4 \xff\r\nclient\r\nsubmit ( retry)\n\n", b""))
 
     def test_it_is_broken_off(self):
         slow = self.stand_in("echo begun >&2; exec sleep 1000")
