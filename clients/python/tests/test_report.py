@@ -324,16 +324,18 @@ class Command(OnProgram):
             self.assertEqual((done.returncode, done.stdout, done.stderr), (0, b"-- \xc3\xa4 \xff\r\nclient\r\nsubmit ( retry)\n\n", b""))
 
     def test_it_is_broken_off(self):
-        slow = self.stand_in("echo begun >&2; exec sleep 1000")
+        slow = self.stand_in('cat >"$0.script"; echo $$ >"$0.new"; mv "$0.new" "$0.begun"; while kill -0 $PPID; do sleep 0.1; done')
         command = [sys.executable, REPOSITORY / "tools" / "explore", "--program", slow]
+        begun = slow.with_name("stand_in.begun")
         with subprocess.Popen(command, stdin=subprocess.PIPE, stdout=subprocess.PIPE, stderr=subprocess.PIPE, text=True) as process:
             process.stdin.write("client\n")
             process.stdin.close()
-            while not pathlib.Path(f"/proc/{process.pid}/task/{process.pid}/children").read_text():
+            while process.poll() is None and not begun.exists():  # then it has got the script, and is waited for
                 time.sleep(0.01)
             process.send_signal(signal.SIGINT)
             self.assertEqual((process.wait(SECONDS), process.stdout.read()), (130, ""))
             self.assertEqual(process.stderr.read(), "\nexplore: it was broken off\n")
+        self.assert_gone(int(begun.read_text()))
 
     def test_nobody_reads(self):
         command = f"{sys.executable} {REPOSITORY / 'tools' / 'explore'} --program {program} 2>&1 >&3 | cat"
