@@ -253,6 +253,7 @@ def main(words: Sequence[str], name: str) -> int:
     parser.add_argument("--all", action="store_true", help="explores every state")
     parser.add_argument("--allow-throws", action="store_true", help="takes no throw of a block for a fault")
     parser.add_argument("--max-states", type=int, metavar="N", help="how many states may be kept; 1,000,000 if nothing is said")
+    parser.add_argument("--trace", action="store_true", help="changes nothing, since a report has each step of the order")
     parser.add_argument("--history", action="store_true", help="prints the history of the fault instead, for check and tools/view")
     plain = "explores nothing, and prints the script with each block on one line, as the program takes it"
     parser.add_argument("--plain", action="store_true", help=plain)

@@ -279,6 +279,7 @@ class Command(OnProgram):
     def test_options(self):
         throws = "client\nsubmit throw 1\nfinish 1\n"
         self.assertEqual([self.ran(*it, text=throws).returncode for it in ((), ("--allow-throws",))], [3, 0])
+        self.assertEqual(self.ran("--trace", text=throws).stdout, self.ran(text=throws).stdout)
         stuck = "client\nsubmit retry\nfinish 1\nclient\nassert return True\nrepeat\n"
         self.assertEqual([self.ran(*it, text=stuck).returncode for it in ((), ("--all",), ("--progress",))], [0, 0, 3])
 
