@@ -15,6 +15,7 @@ _ACTIONS = _TAKE_VALUE | {"writeTVar", "retry", "orElse", "catch", "do", "if"}
 _RESERVED = _ACTIONS | {"let", "then", "else", "True", "False", "Int", "Bool", "TVar"}
 _PARTS = {"if", "then", "else", ";", "{", "}"}  # words that no condition has
 _BEGIN_ACTION = {"", "{", ";", "then", "else", "<-", "("}
+_ELSE = "`if` needs its `else`: `else return ()`"
 _LIST = "return, readTVar, writeTVar, newTVar, retry, throw, orElse, catch, if, do or a bracket"
 
 # What to write for words of other languages that this one doesn't have.
@@ -338,7 +339,8 @@ class _Tokens:
 
     def _lacks_then(self) -> bool:
         """Whether the condition at the place ends without a `then`."""
-        return self._is_in_condition() and next((it for it in self.words[self.at :] if it in _PARTS), "") != "then"
+        follows = next((it for it in self.words[self.at :] if it in _PARTS), "")
+        return self._is_in_condition() and "then" not in (follows, self.after)
 
     def _lacks_else(self) -> bool:
         """Whether in the innermost brackets around the place an `if` has no `else` yet."""
@@ -451,7 +453,8 @@ class _Tokens:
             return "`do` needs braces and semicolons: `do { a <- readTVar x; return a }`"
         if self.word == "}" and self.before in (";", "{"):
             return "no `;` comes after the last action" if self.before == ";" else "`do` needs an action: `do { return () }`"
-        if self._lacks_then() and self._atom_before(self.at) is not None and self.word not in _OPERATORS | set("=<-)"):
+        ends_early = self._atom_before(self.at) is not None and self.word not in _OPERATORS | set("=<-)")
+        if ends_early and self._lacks_then() and not (self.word in ("}", ";") and self._unclosed()):
             return "`if` needs `then` and `else`, and no braces: `if a then b else c`"
         if self.before in _TAKE_VALUE and self.word in (";", "}", ")", "else"):
             return f"`{self.before}` takes one value" + (": `return ()`" if self.before == "return" else "")
@@ -464,15 +467,19 @@ class _Tokens:
         lacks_handler = self._is_name(self.before) and self._get(self.at - 2) == ")" and "catch" in self.words
         if around == "catch" and not names_thrown or lacks_handler:
             return "`catch` takes an action, a name for the number thrown, and a handler: `catch (a) e (b)`"
-        if self.word in (";", "}", ")") and self._lacks_else():
-            return "`if` needs its `else`: `else return ()`"
-        return self._unclosed() if self.word in (";", "}", ")") else None
+        if self.word not in (";", "}", ")"):
+            return None
+        return self._unopened() or (_ELSE if self._lacks_else() else self._unclosed())
+
+    def _unopened(self) -> str | None:
+        """No bracket or brace is open that the token closes."""
+        opens = {"}": "{", ")": "("}.get(self.word)
+        is_unopened = opens and opens not in (self.words[it] for it in self._open())
+        return f"no bracket is open that `{self.word}` could close" if is_unopened else None
 
     def _unclosed(self) -> str | None:
         """The innermost bracket or brace that is open, if the token doesn't close it."""
         found = self._open()
-        if self.word in ("}", ")") and {"}": "{", ")": "("}[self.word] not in (self.words[it] for it in found):
-            return f"no bracket is open that `{self.word}` could close"
         bracket = self.words[found[-1]] if found else ""
         if not bracket or bracket + self.word in ("()", "{}", "{;") or bracket == "(" and self._is_closed():
             return None
@@ -493,6 +500,10 @@ class _Tokens:
         begins = self.word in _ACTIONS or self.word == "let" or names_result
         ends = self._atom_before(self.at) is not None or self.before in ("}", "retry")
         if begins and ends and self._is_in_do():
+            if self._is_name(self.before) and self._get(self.at - 2) in ("{", ";") and self.word in _ACTIONS:
+                return f"write `{self.before} <- {self.word} ..`"
+            if self._lacks_else():
+                return _ELSE
             return f"a `;` is missing before `{self.word}`"
         if self.word == ";" and (self.before in (";", "{") or not self.after):
             return "a `;` comes only between two actions"
@@ -546,9 +557,7 @@ class _Tokens:
             return "`writeTVar` takes a variable and a value"
         if self.words[-1] in _TAKE_VALUE:
             return f"`{self.words[-1]}` takes one value"
-        if self._lacks_else():
-            return "`if` needs its `else`: `else return ()`"
-        return self._unclosed()
+        return _ELSE if self._lacks_else() else self._unclosed()
 
     def mismatch(self) -> str | None:
         index = self._head(self.at)
