@@ -232,6 +232,8 @@ def script_hint(reason: str, place: int | None, word: str, text: str, types: Map
         return f"`{word}` takes a block, as `{word} do {{ a <- readTVar x; {returns} }}`"
     command = "submit" if word in ("always", "never", "eventually", "assert") else word
     found = hint(reason, place, None, command, text, types, None)
+    if reason == "EndOfText" and command == "submit" and not text:
+        return f"the block begins in the line of its `{word}`"
     if reason == "EndOfText" and command == "submit" and re.search(r"(?:[{;(]|<-|\b(?:do|then|else))$", text):
         goes_on = "a block goes on in lines that are indented deeper, while a bracket or brace is open"
         return f"{found}; {goes_on}" if found else goes_on

@@ -456,6 +456,12 @@ class Explorations(OnProgram):
                 "await x == 1",
                 "hint: a block waits by `retry`: `submit do { a <- readTVar x; if a == 1 then return () else retry }`",
             ),
+            "client\nsubmit\n  do { writeTVar x 1 }\n": (
+                "line 4 of the script is refused: EndOfText",
+                "submit",
+                7 * " " + "^",
+                "hint: the block begins in the line of its `submit`",
+            ),
             "client\nsubmit do {\nwriteTVar x 1\n}\n": (
                 "line 4 of the script is refused: EndOfText",
                 "submit do {",
