@@ -28,7 +28,7 @@ HasOnly bytes e = (console_of e ≡ initial_console 0) × (unread_answers e ≡ 
 abbrev pub AreWholeLines : List ℕ → Type 0
 AreWholeLines bytes = (more : List ℕ) → whole_lines_of (bytes ++ more) ≡ whole_lines_of bytes ++ whole_lines_of more
 
--- from the console s, and these answers, so many bytes of lines were taken: now these are the console and the answers
+-- from the console s, and these answers, this many bytes of lines were taken: now these are the console and the answers
 pub record HasFed (lines : List ℕ) (s t : Console) (before after : List ℕ) (count : ℕ) : Type 0 where
   pub within : count ≤ length lines
   pub whole : AreWholeLines (take count lines)

@@ -1,12 +1,11 @@
 //! The console, and the answers that were not fetched.
 
-ghost use Rattle.std.specs.Prelude.{◌≡◌, ◌≢◌, ◌<◌, ◌≤◌, ℕ, List, true, false, [], ◌++◌, length, take, drop, vec_len, OnOk, OnErr, IfOk};
+ghost use Rattle.std.specs.Prelude.{◌≡◌, ◌<◌, ◌≤◌, false, [], ◌++◌, length, take, drop, vec_len, OnOk, OnErr, IfOk};
 ghost use Rattle.stm_lines.specs.Lines.{drop_return, whole_lines_of, NoLineFeed};
 ghost use Rattle.stm_run.specs.Console.{answer_to, answers_to, initial_console, state_after};
 ghost use Rattle.stm_run.specs.AfterLines.{state_after_lines};
-ghost use Rattle.stm_embed.specs.Exploring.{AreDiagnosticsOf, IsExplored, diagnosed_text};
 ghost use Rattle.stm_embed.specs.Feeding.{console_of, unread_answers};
-ghost use Rattle.stm_embed.specs.Status.{all_taken, part_of_line, no_memory, taken_status};
+ghost use Rattle.stm_embed.specs.ForC.{KeepsExploration, TakesLines, fed_status};
 
 use crate::exploring::{Ended, explore_script};
 use crate::status::{ALL_TAKEN, NO_MEMORY, PART_OF_LINE};
@@ -30,6 +29,17 @@ pub struct Embedded {
     given: usize,
 }
 
+/// What a call did.
+#[repr(C)]
+pub struct Fed {
+    /// How many bytes of the lines were taken: whole lines, from the front.
+    pub taken: usize,
+    /// How many bytes of answers were given.
+    pub given: usize,
+    /// How many more wait to be fetched.
+    pub waiting: usize,
+}
+
 /// How far lines were taken: how many bytes, and whether memory ran out at the next line.
 #[derive(Clone, Copy, Drop)]
 pub struct Taken {
@@ -38,14 +48,10 @@ pub struct Taken {
 }
 
 impl Taken {
-    /// How a call ended that took so much of these lines.
+    /// How a call ended that took this much of these lines.
     pub fn status(self, lines: &[u8]) -> u32
         requires { self.count ≤ length lines.now }
-        ensures status { result ≢ no_memory → result ≡ taken_status self.count (length lines.now) }
-        ensures memory { result ≢ no_memory → self.is_out_of_memory ≡ false }
-        ensures all { result ≡ all_taken → self.count ≡ length lines.now }
-        ensures part { result ≡ part_of_line → (self.count < length lines.now)
-            × (self.is_out_of_memory ≡ false) }
+        ensures { result ≡ fed_status self (length lines.now) }
     {
         if self.is_out_of_memory {
             NO_MEMORY
@@ -182,10 +188,8 @@ impl Embedded {
         options: ExploreOptions,
         diagnosed: bool,
     ) -> Result<(Ended, usize), NoMemory>
-        ensures done { IfOk result (λ r. (found : List ℕ) × (diagnostics : List ℕ)
-            × IsExplored script.now options r.0 found × AreDiagnosticsOf script.now options r.0 diagnostics
-            × (unread_answers self.new ≡ unread_answers self.old ++ diagnosed_text diagnosed found diagnostics)
-            × (r.1 ≡ length found)) }
+        ensures done { IfOk result (λ r.
+            KeepsExploration script.now options diagnosed self.old self.new r.0 r.1) }
         ensures same { OnErr result (unread_answers self.new ≡ unread_answers self.old) }
         ensures console { console_of self.new ≡ console_of self.old }
     {
@@ -200,12 +204,7 @@ impl Embedded {
 
     /// Answers the whole lines among some bytes, one after another. The answers wait to be given.
     pub fn take_lines(&mut self, alloc: Global, lines: &[u8]) -> Taken
-        ensures few { result.count ≤ length lines.now }
-        ensures answers { unread_answers self.new ≡ unread_answers self.old
-            ++ answers_to (console_of self.old) (whole_lines_of (take result.count lines.now)) }
-        ensures console { result.is_out_of_memory ≡ false → console_of self.new
-            ≡ state_after_lines (console_of self.old) (whole_lines_of (take result.count lines.now)) }
-        ensures rest { result.is_out_of_memory ≡ false → NoLineFeed (drop result.count lines.now) }
+        ensures taken { TakesLines self.old self.new lines.now result }
         ensures given { self.new.given ≤ vec_len self.new.answers }
     {
         let given = self.given.min(self.answers.len());

@@ -8,8 +8,8 @@
 //! check of a history, `exploring` the exploration of a script, `seed` the seed of names that C chooses, and `version` the version. No
 //! thread is started: a static library may start none.
 //!
-//! What a reader has to believe is in specs/: `Feeding` has what a call did, in the words of `stm_run/specs/Console`, `Checking` what a
-//! check found, and `Exploring` how an exploration ended and what is said of it.
+//! What a reader has to believe is in specs/: `Feeding` has what a console keeps, in the words of `stm_run/specs/Console`, `Checking` what
+//! a check found, `Exploring` how an exploration ended and what is said of it, and `ForC` what C gets of a call.
 #![tactic(auto)]
 
 mod checking;
@@ -20,21 +20,18 @@ mod seed;
 mod status;
 mod version;
 
-ghost use Rattle.std.specs.Prelude.{◌≡◌, ◌≢◌, ◌<◌, ◌≤◌, ℕ, List, [], ◌∷◌, ◌++◌, false, length, take, drop, IfOk, IsSomeAnd, IsTrue, OnErr};
-ghost use Rattle.stm_lines.specs.Lines.{whole_lines_of, NoLineFeed};
-ghost use Rattle.stm_run.specs.Console.{answers_to};
-ghost use Rattle.stm_run.specs.AfterLines.{state_after_lines};
+ghost use Rattle.std.specs.Prelude.{◌≡◌, ◌≢◌, ℕ, List, [], ◌∷◌, ◌++◌, true, false, length, IfOk, IsSomeAnd, IsTrue, OnErr};
 ghost use Rattle.stm_command_line.specs.declared.version.TheConstants.{VERSION};
 ghost use Rattle.stm_embed.specs.Checking.{IsJudgement, found_status, numbers_of};
-ghost use Rattle.stm_embed.specs.Exploring.{AreDiagnosticsOf, IsExplored, diagnosed_text, ended_status, explore_options, invalid_line};
-ghost use Rattle.stm_embed.specs.Feeding.{HasOnly, IsNew, console_of, unread_answers};
-ghost use Rattle.stm_embed.specs.Status.{all_taken, part_of_line, no_memory, taken_status};
+ghost use Rattle.stm_embed.specs.Exploring.{AreDiagnosticsOf, IsExplored, diagnosed_text, explore_options};
+ghost use Rattle.stm_embed.specs.Feeding.{HasOnly, IsNew};
+ghost use Rattle.stm_embed.specs.ForC.{EndsFeeding, Feeds, GivesExploration, GivesNothing};
+ghost use Rattle.stm_embed.specs.Status.{no_memory};
 ghost use Rattle.stm_embed.specs.declared.checking.Found.{Found as AnyFound};
-ghost use Rattle.stm_embed.specs.declared.exploring.Ended.{Ended as AnyEnded};
 
 use checking::{Checked, judge};
 use exploring::{Ended, Explored, Wanted};
-use feeding::Embedded;
+use feeding::{Embedded, Fed};
 use handle::{Handle, Room};
 use seed::CallersSeed;
 use status::NO_MEMORY;
@@ -45,17 +42,6 @@ use stm_run::limit::EventLimit;
 use stm_store::Seed;
 use stm_terms::NoMemory;
 use version::{VERSION_TEXT, VersionText};
-
-/// What a call did.
-#[repr(C)]
-pub struct Fed {
-    /// How many bytes of the lines were taken: whole lines, from the front.
-    pub taken: usize,
-    /// How many bytes of answers were given.
-    pub given: usize,
-    /// How many more wait to be fetched.
-    pub waiting: usize,
-}
 
 /// Makes a console of no variables, whose names will be looked up under the seed, and puts its handle into the room.
 fn make(alloc: Global, seed: Seed, max_events: u32, desk: &mut Room) -> bool
@@ -110,24 +96,12 @@ pub extern "C" fn stmdesk_feed(
     out: &mut [u8],
     fed: &mut Fed,
 ) -> u32
-    // Whole lines were taken.
-    ensures taken { fed.new.taken ≤ length lines.now }
-    // What was given, and what still waits, is what waited, and then the answers to the lines that were taken.
-    ensures answers { unread_answers desk.old.embedded
-        ++ answers_to (console_of desk.old.embedded) (whole_lines_of (take fed.new.taken lines.now))
-        ≡ take fed.new.given out.new ++ unread_answers desk.new.embedded }
-    // The console is the one after these lines, unless memory ran out: then it may have done a part of the next.
-    ensures console { result ≢ no_memory → console_of desk.new.embedded
-        ≡ state_after_lines (console_of desk.old.embedded) (whole_lines_of (take fed.new.taken lines.now)) }
-    // Unless memory ran out, the status says whether all were taken.
-    ensures status { result ≢ no_memory → result ≡ taken_status fed.new.taken (length lines.now) }
-    ensures all { result ≡ all_taken → fed.new.taken ≡ length lines.now }
-    ensures part { result ≡ part_of_line → (fed.new.taken < length lines.now)
-        × NoLineFeed (drop fed.new.taken lines.now) }
-    // Nothing waits while there is room.
-    ensures given { fed.new.given ≤ length out.old }
-    ensures room { fed.new.given < length out.old → unread_answers desk.new.embedded ≡ [] }
-    ensures waiting { fed.new.waiting ≡ length (unread_answers desk.new.embedded) }
+    // Lines were taken from the front, and answers given.
+    ensures fed { Feeds desk.old.embedded desk.new.embedded lines.now
+        (length out.old) out.new fed.new }
+    // The status says how far.
+    ensures status { EndsFeeding desk.old.embedded desk.new.embedded lines.now
+        fed.new.taken result }
 {
     let embedded = desk.lend();
     let done = embedded.take_lines(alloc, lines);
@@ -167,13 +141,9 @@ fn explore_for_c(
     text: &mut Room,
     explored: &mut Explored,
 ) -> u32
-    ensures found { result ≢ no_memory → (e : AnyEnded) × (found : List ℕ) × (diagnostics : List ℕ)
-        × IsExplored script.now (explore_options options.now) e found
-        × AreDiagnosticsOf script.now (explore_options options.now) e diagnostics
-        × (result ≡ ended_status e) × (explored.new.line ≡ invalid_line e) × (explored.new.length ≡ length found)
-        × IsSomeAnd text.new.embedded (λ d. HasOnly (diagnosed_text diagnosed found diagnostics) d) }
-    ensures memory { result ≡ no_memory → (text.new ≡ text.old)
-        × (explored.new.line ≡ 0) × (explored.new.length ≡ 0) }
+    ensures found { result ≢ no_memory → GivesExploration script.now (explore_options options.now)
+        diagnosed result explored.new text.new.embedded }
+    ensures memory { result ≡ no_memory → GivesNothing text.old text.new explored.new }
 {
     match explore(alloc, script, options.options(), diagnosed, text) {
         Ok((ended, length)) => {
@@ -200,13 +170,10 @@ pub extern "C" fn stmdesk_explore(
     explored: &mut Explored,
 ) -> u32
     // What the status and the line say was found of the script, and the text is what is written of that.
-    ensures found { result ≢ no_memory → (e : AnyEnded) × (bytes : List ℕ)
-        × IsExplored script.now (explore_options options.now) e bytes
-        × (result ≡ ended_status e) × (explored.new.line ≡ invalid_line e) × (explored.new.length ≡ length bytes)
-        × IsSomeAnd text.new.embedded (λ d. HasOnly bytes d) }
+    ensures found { result ≢ no_memory → GivesExploration script.now (explore_options options.now)
+        false result explored.new text.new.embedded }
     // If memory ran out, the variable for the text is as it was.
-    ensures memory { result ≡ no_memory → (text.new ≡ text.old)
-        × (explored.new.line ≡ 0) × (explored.new.length ≡ 0) }
+    ensures memory { result ≡ no_memory → GivesNothing text.old text.new explored.new }
 {
     explore_for_c(alloc, script, options, false, text, explored)
 }
@@ -222,14 +189,10 @@ pub extern "C" fn stmdesk_explore_with_diagnostics(
     explored: &mut Explored,
 ) -> u32
     // What the status and the line say was found of the script, and the text is what is written of that, and then the diagnostics.
-    ensures found { result ≢ no_memory → (e : AnyEnded) × (bytes : List ℕ) × (diagnostics : List ℕ)
-        × IsExplored script.now (explore_options options.now) e bytes
-        × AreDiagnosticsOf script.now (explore_options options.now) e diagnostics
-        × (result ≡ ended_status e) × (explored.new.line ≡ invalid_line e) × (explored.new.length ≡ length bytes)
-        × IsSomeAnd text.new.embedded (λ d. HasOnly (bytes ++ diagnostics) d) }
+    ensures found { result ≢ no_memory → GivesExploration script.now (explore_options options.now)
+        true result explored.new text.new.embedded }
     // If memory ran out, the variable for the text is as it was.
-    ensures memory { result ≡ no_memory → (text.new ≡ text.old)
-        × (explored.new.line ≡ 0) × (explored.new.length ≡ 0) }
+    ensures memory { result ≡ no_memory → GivesNothing text.old text.new explored.new }
 {
     explore_for_c(alloc, script, options, true, text, explored)
 }
