@@ -36,7 +36,7 @@ pub enum Found {
 
 impl Found {
     /// The status of a check that found this.
-    pub fn status(self) -> u32
+    pub(crate) fn status(self) -> u32
         ensures { result ≡ found_status self }
     {
         match self {
@@ -49,7 +49,7 @@ impl Found {
     }
 
     /// The numbers of a check that found this.
-    pub fn numbers(self) -> Checked
+    pub(crate) fn numbers(self) -> Checked
         ensures { result ≡ numbers_of self }
     {
         let mut numbers = Checked {
@@ -89,7 +89,7 @@ fn found_of(reason: &Reason) -> Found
 }
 
 /// Judges the bytes of a history.
-pub fn judge(alloc: Global, seed: Seed, history: &[u8]) -> Found
+pub(crate) fn judge(alloc: Global, seed: Seed, history: &[u8]) -> Found
     ensures { IsJudgement history.now result }
 {
     match why_history(alloc, seed, history) {

@@ -32,8 +32,8 @@ pub struct Wanted {
 }
 
 impl Wanted {
-    /// The same options, as the exploration takes them.
-    pub fn options(&self) -> ExploreOptions
+    /// The options as the exploration takes them.
+    pub(crate) fn options(&self) -> ExploreOptions
         ensures { result ≡ explore_options self.now }
     {
         ExploreOptions {
@@ -68,7 +68,7 @@ pub enum Ended {
 
 impl Ended {
     /// The status of an exploration that ended so.
-    pub fn status(self) -> u32
+    pub(crate) fn status(self) -> u32
         ensures status { result ≡ ended_status self }
         ensures some { result ≢ no_memory }
     {
@@ -82,7 +82,7 @@ impl Ended {
     }
 
     /// The line of the script that is invalid, or 0.
-    pub fn line(self) -> u32
+    pub(crate) fn line(self) -> u32
         ensures { result ≡ invalid_line self }
     {
         match self {
@@ -182,7 +182,7 @@ fn explore_history(
 
 /// Explores a script, and writes what the options ask for, and after it the diagnostics, on memory that holds nothing else. Returns how it
 /// ended, and where the diagnostics begin.
-pub fn explore_script(
+pub(crate) fn explore_script(
     alloc: Global,
     script: &[u8],
     options: ExploreOptions,

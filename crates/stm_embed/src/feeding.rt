@@ -49,7 +49,7 @@ pub struct Taken {
 
 impl Taken {
     /// How a call ended that took this much of these lines.
-    pub fn status(self, lines: &[u8]) -> u32
+    pub(crate) fn status(self, lines: &[u8]) -> u32
         requires { self.count ≤ length lines.now }
         ensures { result ≡ fed_status self (length lines.now) }
     {
@@ -157,7 +157,7 @@ fn drop_given(answers: &mut Vec<u8>, given: usize) -> usize
 
 impl Embedded {
     /// A console of no variables, whose names will be looked up under the seed, and whose desk will take `limit` events.
-    pub fn new(alloc: Global, seed: Seed, limit: EventLimit) -> Embedded
+    pub(crate) fn new(alloc: Global, seed: Seed, limit: EventLimit) -> Embedded
         ensures console { console_of result ≡ initial_console limit }
         ensures waiting { unread_answers result ≡ [] }
     {
@@ -181,7 +181,7 @@ impl Embedded {
 
     /// Explores a script, and keeps what is written of it after the answers that wait to be given, with the diagnostics or without them.
     /// Returns how the exploration ended, and how many bytes come before the diagnostics.
-    pub fn explore(
+    pub(crate) fn explore(
         &mut self,
         alloc: Global,
         script: &[u8],
@@ -203,7 +203,7 @@ impl Embedded {
     }
 
     /// Answers the whole lines among some bytes, one after another. The answers wait to be given.
-    pub fn take_lines(&mut self, alloc: Global, lines: &[u8]) -> Taken
+    pub(crate) fn take_lines(&mut self, alloc: Global, lines: &[u8]) -> Taken
         ensures taken { TakesLines self.old self.new lines.now result }
         ensures given { self.new.given ≤ vec_len self.new.answers }
     {
@@ -213,14 +213,14 @@ impl Embedded {
     }
 
     /// How many bytes wait to be given.
-    pub fn waiting(&self) -> usize
+    pub(crate) fn waiting(&self) -> usize
         ensures { result ≡ length (unread_answers self.now) }
     {
         self.answers.len().saturating_sub(self.given)
     }
 
     /// Gives the front of what waits, as much as there is room for.
-    pub fn give(&mut self, out: &mut [u8]) -> usize
+    pub(crate) fn give(&mut self, out: &mut [u8]) -> usize
         requires { self.old.given ≤ vec_len self.old.answers }
         ensures few { result ≤ length out.old }
         ensures given { unread_answers self.old ≡ take result out.new ++ unread_answers self.new }
