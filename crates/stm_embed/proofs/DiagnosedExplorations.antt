@@ -1,5 +1,5 @@
 -- What was written of an exploration, and after it its diagnostics.
-use Rattle.std.proofs.Common.{◌≡◌, ℕ, Bool, true, false, List, [], ◌++◌, length, Err, refl, ap, sym, subst, ◌∙◌, append-nil}
+use Rattle.std.proofs.Common.{◌≡◌, ℕ, Bool, true, List, [], ◌++◌, length, Err, refl, sym, subst, append-nil}
 use Rattle.stm_options.specs.declared.explore_options.ExploreOptions.{ExploreOptions}
 use Rattle.stm_script.specs.FaultText.{script_fault_lines}
 use Rattle.stm_script.specs.declared.script_fault.ScriptFault.{ScriptFault}

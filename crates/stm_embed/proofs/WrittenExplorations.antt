@@ -3,7 +3,7 @@ use Rattle.std.proofs.Common.{◌≡◌, ℕ, Bool, true, false, List, [], ◌++
 use Rattle.std.specs.Prelude.{Option}
 use Rattle.stm_explore.specs.declared.explored.Outcome.{Outcome}
 use Rattle.stm_options.specs.declared.explore_options.ExploreOptions.{ExploreOptions}
-use Rattle.stm_explore_script.specs.ExploreEnd.{CameTo, IsExploredText, IsFaultHistory, IsFaulty, WritesFound, WritesHistory, WritesNone}
+use Rattle.stm_explore_script.specs.ExploreEnd.{IsExploredText, IsFaultHistory, IsFaulty, WritesFound, WritesHistory, WritesNone}
 use Rattle.stm_explore_script.specs.declared.exploring.ExploreFault.{ExploreFault}
 use Rattle.stm_explore_script.specs.ExploreResult.{WritesExploration, WritesFaultHistory}
 use Rattle.stm_embed.specs.Exploring.{WritesFault, WritesNoFault}
