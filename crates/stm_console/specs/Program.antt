@@ -37,7 +37,7 @@ pub data Asked : Type 0 where
   -- a run, a storm, an exploration or a check
   Do : Request → Asked
 
--- the same by the kinds of what clap may print of the words; if there are none, by the request
+-- what the program is asked for, by the kinds of what clap may print of the words; if there are none, by the request
 abbrev pub asked_of : Kinds → Request → Asked
 asked_of [] request = Do request
 asked_of (kind ∷ kinds) request =
@@ -65,7 +65,7 @@ abbrev pub streams : Option (List ℕ) → Option (List ℕ) → Option (List �
 streams input rest before after =
     record { input = input; rest = rest; before = before; after = after; files = λ name. None }
 
--- the same with files
+-- the streams with files
 abbrev pub with_files : (List ℕ → Option (List ℕ)) → Streams → Streams
 with_files files s = record s { files = files }
 

@@ -81,7 +81,7 @@ fn write_explanation(explanation: &Explanation, out: &mut String) -> Result<(), 
     }
 }
 
-/// Appends the number of a line, as it stands before an explanation.
+/// Appends the number of a line, as it comes before an explanation.
 fn write_place(line: u32, out: &mut String) -> Result<(), NoMemory>
     ensures { OnOk result (string_bytes out.new
         ≡ string_bytes out.old ++ (codes "line " ++ decimal line ++ codes " ")) }
@@ -209,7 +209,7 @@ pub fn check_why<R: Read, W: Write>(
     ensures part { OnErr result (IfSome (R.remaining reader.old) (λ bytes.
         (front : List ℕ) × BeginsAnswerWhy bytes front
         × Appends (W.contents writer.old) (W.contents writer.new) front)) }
-    // After a read fault, or where memory is refused, nothing.
+    // After a read fault, or if memory runs out, nothing.
     ensures unfound { IfErr result (λ e.
         e ≢ RunFault.Write → Keeps (W.contents writer.old) (W.contents writer.new)) }
 {

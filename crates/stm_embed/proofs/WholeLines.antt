@@ -35,9 +35,6 @@ more_are_whole xs bytes w h = λ more.
     ap whole_lines_of (append_assoc xs (bytes ++ 10 ∷ []) more) ∙ w ((bytes ++ 10 ∷ []) ++ more) ∙ ap (λ l. whole_lines_of xs ++ l) (line_then bytes more h)
     ∙ sym (append_assoc (whole_lines_of xs) (drop_return bytes ∷ []) (whole_lines_of more)) ∙ ap (λ l. l ++ whole_lines_of more) (sym (more_lines xs bytes w h))
 
-pub HasFed-nothing : (lines : List ℕ) (s : Console) (before : List ℕ) → HasFed lines s s before before 0
-HasFed-nothing lines s before = record { within = omega arith; whole = λ more. refl; console = refl; answers = sym (append-nil before) }
-
 -- the bytes that are taken with a line
 next_bytes : (lines : List ℕ) (at end : ℕ) → at ≤ length lines → IsFirstByte (is_byte 10) (drop at lines) (Some end)
     → take (at + (end + 1)) lines ≡ take at lines ++ (take end (drop at lines) ++ 10 ∷ [])

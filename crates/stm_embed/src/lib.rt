@@ -4,9 +4,9 @@
 //! `stmdesk_explore` and `stmdesk_explore_with_diagnostics` explore a script without one, and `stmdesk_version` has the version. docs/EMBEDDING.md says how they are called, and
 //! include/stmdesk.h declares them.
 //!
-//! `feeding` has the console with the answers that were not fetched, and `handle` the pointer by which C holds it. `checking` has the
-//! check of a history, `exploring` the exploration of a script, `seed` the seed of names that C chooses, and `version` the version. No
-//! thread is started: a static library may start none.
+//! `feeding` has the console with the answers that were not fetched, and `handle` the pointer by which C holds it. `checking` has
+//! the check of a history, `exploring` the exploration of a script, `status` what a call returns, `seed` the seed of names that C
+//! chooses, and `version` the version. No thread is started: a static library may start none.
 //!
 //! What a reader has to believe is in specs/: `Feeding` has what a console keeps, in the words of `stm_run/specs/Console`, `Checking` what
 //! a check found, `Exploring` how an exploration ended and what is said of it, and `ForC` what C gets of a call.

@@ -1,6 +1,5 @@
 -- Batches of events, one after another.
-use Rattle.std.proofs.Common.{◌≡◌, inl, inr, ℕ, Result, Ok, Err, OnOk, List, [], ◌∷◌, ◌++◌, Bool, true, sym, ap, ◌∙◌, subst, append_assoc, append-nil}
-use Rattle.std.specs.Prelude.{◌⊎◌}
+use Rattle.std.proofs.Common.{◌≡◌, ℕ, Result, Ok, Err, OnOk, List, [], ◌∷◌, ◌++◌, Bool, true, sym, ap, ◌∙◌, subst, append_assoc, append-nil}
 use Rattle.stm_events.specs.declared.event.Event.{Event}
 use Rattle.stm_events.specs.SlowDesk.{Slow, after, state_from}
 use Rattle.stm_history_text.specs.Starts.{Start}
@@ -34,9 +33,6 @@ fit_back start s es xs ys e f = record {
   start_fits = f.start_fits;
   fit = back_fits start.format s xs ys (subst (AreFit start.format s) e f.fit);
 }
-
-pub fit_none : (start : Start) (es : List Event) → (s : Slow) × FitLines start s es → (s : Slow) × FitLines start s []
-fit_none start es f = (f.0, record { format_fits = f.1.format_fits; start_fits = f.1.start_fits; fit = tt })
 
 -- ---- what a crash leaves
 module _ (sync : SyncMode) (zeros : Bool) (start : Start) (history : List Event) where
@@ -95,19 +91,6 @@ module _ {D : Type 0} (disk : Disk D) (sync : SyncMode) (zeros : Bool) (start : 
       joined disk old one two (Batches es) (LeavesBatches same zeros start (history ++ first) rest) (Batches es) before run (λ c h. h)
       (λ c h. in_rest sync zeros start history es first rest c e (subst (λ (m : SyncMode). LeavesBatches m zeros start (history ++ first) rest c) s h))
 
-  -- the first batch of a file, and then the others
-  pub begun_run : (begun : Bool) (es : List Event) (old one two : D) (same : SyncMode) → same ≡ sync → Run old one (LeavesHistory sync zeros begun start history [])
-      → Run one two (LeavesBatches same zeros start history es) → Run old two (λ c. LeavesHistory sync zeros begun start history [] c ⊎ Batches es c)
-  begun_run begun es old one two same s before run =
-      joined disk old one two (LeavesHistory sync zeros begun start history []) (LeavesBatches same zeros start history es)
-      (λ c. LeavesHistory sync zeros begun start history [] c ⊎ Batches es c) before run (λ c h. inl h)
-      (λ c h. inr (subst (λ (m : SyncMode). LeavesBatches m zeros start history es c) s h))
-
-  pub head_run : (begun : Bool) (es : List Event) (old one : D) → Run old one (LeavesHistory sync zeros begun start history [])
-      → Run old one (λ c. LeavesHistory sync zeros begun start history [] c ⊎ Batches es c)
-  head_run begun es old one run =
-      weaker disk old one (LeavesHistory sync zeros begun start history []) (λ c. LeavesHistory sync zeros begun start history [] c ⊎ Batches es c) run (λ c h. inl h)
-
 -- ---- what is kept
 -- nothing is recorded
 pub nothing_run : {D : Type 0} (disk : Disk D) (f : HistoryFile D) (start : Start) (history es : List Event) → f.begun ≡ true → HistoryKept disk f start history
@@ -115,10 +98,6 @@ pub nothing_run : {D : Type 0} (disk : Disk D) (f : HistoryFile D) (start : Star
     → LeavesOnly disk f.journal.device f.journal.device (LeavesBatches f.journal.sync disk.fills_with_zeros start history es)
 nothing_run disk f start history es b keeps now =
     batch_run disk f.journal.sync disk.fills_with_zeros start history f.begun es f.journal.device f.journal.device b (stays disk f start history es keeps now)
-
-pub as_begun : {E : Type 0} (r : Result Unit E) (P : Bool → Type 0) (b : Bool) → OnOk r (b ≡ true) → OnOk r (P true) → OnOk r (P b)
-as_begun (Ok x) P b e p = subst P (sym e) p
-as_begun (Err x) P b e p = tt
 
 pub halves : (H es first rest : List Event) → es ≡ first ++ rest → (H ++ first) ++ rest ≡ H ++ es
 halves H es first rest e = append_assoc H first rest ∙ ap (λ (xs : List Event). H ++ xs) (sym e)

@@ -1,8 +1,8 @@
 -- A line more, and what a commit makes of it.
 use Rattle.std.proofs.Common.{◌≡◌, ◌≢◌, ⊎_elim, ℕ, ◌≤◌, List, [], ◌∷◌, ◌++◌, length, Bool, true, false, cond, IsTrue, Option, Some, None, Result, Ok, Err, OnOk, IfErr, refl, sym, ap, ap₂, ◌∙◌, subst, arith, append_assoc, append-nil}
 use Rattle.std.specs.Prelude.{◌⊎◌, MatchBool, IfOk}
-use Rattle.std.specs.Io.KnownBytes.{Appends, Keeps}
-use Rattle.std.proofs.KnownBytes.{Appends-kept, Appends-trans}
+use Rattle.std.specs.Io.KnownBytes.{Appends}
+use Rattle.std.proofs.KnownBytes.{Appends-trans}
 use Rattle.std.proofs.lemmas.Bool.{le-ltb}
 use Rattle.stm_terms.specs.Texts.{IsPrefixOf}
 use Rattle.stm_journal.specs.declared.sync_mode.SyncMode.{SyncMode}
@@ -299,15 +299,6 @@ after_kept K K' every s lines old new console held recorded keeps a = record {
 }
 
 -- ---- what a commit and what follows it wrote
--- a commit failed, and more was to be written
-pub more_unwritten : (e : DurableFault) (old new : Option (List ℕ)) (text more : List ℕ) (kept : Type 0) → HasNotWritten e old new text kept → HasNotWritten e old new (text ++ more) kept
-more_unwritten (Run f) old new text more kept h = (h.0, h.1, (h.2.0 ++ more, ap (λ (t : List ℕ). t ++ more) h.2.1 ∙ append_assoc h.1 h.2.0 more), h.3, h.4)
-more_unwritten (Journal e) old new text more kept h = h
-
--- a flush failed after a commit
-pub unflushed : (f : RunFault) (old mid new : Option (List ℕ)) (text : List ℕ) (kept : Type 0) → f ≢ Read → Appends old mid text → Keeps mid new → kept → HasNotWritten (Run f) old new text kept
-unflushed f old mid new text kept not w k h = (not, text, ([], sym (append-nil text)), Appends-kept old mid new text w k, h)
-
 -- a part of what is streamed was written after a commit
 pub unstreamed : (f : RunFault) (old mid new : Option (List ℕ)) (held text : List ℕ) (kept : Type 0) → f ≢ Read → Appends old mid held → WritesFront mid new text → kept → HasNotWritten (Run f) old new (held ++ text) kept
 unstreamed f old mid new held text kept not w p h =

@@ -1,5 +1,5 @@
 -- The events of a console that were not recorded are recorded; or a new file has them all, or begins from its checkpoint.
-use Rattle.std.proofs.Common.{◌≡◌, ◌≢◌, ⊎_elim, inl, inr, ℕ, zero, suc, ◌≤◌, List, [], ◌∷◌, ◌++◌, length, take, drop, Bool, true, false, IsTrue, Option, Some, Result, Ok, Err, OnOk, refl, sym, ap, ap₂, ◌∙◌, subst, arith, append_assoc, append-nil, length-append}
+use Rattle.std.proofs.Common.{◌≡◌, ◌≢◌, ⊎_elim, inl, inr, ℕ, zero, suc, List, [], ◌∷◌, ◌++◌, length, take, drop, Bool, true, false, IsTrue, Option, Some, Result, Ok, Err, OnOk, refl, sym, ap, ap₂, ◌∙◌, subst, arith, append_assoc, append-nil, length-append}
 use Rattle.std.specs.Prelude.{◌⊎◌, ◌||◌, if◌then◌else◌, is_some}
 use Rattle.std.specs.List.{list_any}
 use Rattle.std.proofs.Math.Seq.{take-append_seam}
@@ -41,9 +41,6 @@ take-drop : (n : ℕ) (es : List Event) → es ≡ take n es ++ drop n es
 take-drop zero es = refl
 take-drop (suc n) [] = refl
 take-drop (suc n) (e ∷ es) = ap (λ (l : List Event). e ∷ l) (take-drop n es)
-
-pub within : (K : Console → Type 0) (t : Console) (n : ℕ) → MayCommit K t n → n ≤ length (events_of t)
-within K t n c = let g = c.grows in omega (arith, c.count, ap length g.events, length-append (events_of c.committed) g.added)
 
 recorded_are : (s t : Console) (g : Grows s t) (n : ℕ) → n ≡ length (events_of s) → take n (events_of t) ≡ events_of s
 recorded_are s t g n e = ap (λ (m : ℕ). take m (events_of t)) e ∙ ap (λ (es : List Event). take (length (events_of s)) es) g.events ∙ take-append_seam (events_of s) g.added
@@ -126,15 +123,6 @@ module _ {D : Type 0} (disk : Disk D) (f : HistoryFile D) where
       (subst (λ (x : List Declared). HistoryKept disk f (record { format = f.format; table = x; checkpoint = d.desk.checkpoint }) d.desk.history) (sym (g.opened refl).1) k.history)
   kept_as (Declaring table limit) t g k = other_start (start_in f.format (Declaring table limit)) (start_in f.format t) [] k.begun_if_open k.history
 
-  -- in the format in which it goes on
-  in_format : (b : Bool) → f.begun ≡ b → (format : ℕ) → (f.begun ≡ true → f.format ≡ format) → (t : Console) (es : List Event) → HistoryKept disk f (start_in f.format t) es → HistoryKept disk f (start_in format t) es
-  in_format true e format is t es k = subst (λ (n : ℕ). HistoryKept disk f (start_in n t) es) (is e) k
-  in_format false e format is t es k = other_start (start_in f.format t) (start_in format t) es e k
-
-  pub kept_front : (s t : Console) (n format : ℕ) → (f.begun ≡ true → f.format ≡ format) → Grows s t → n ≡ length (events_of s) → Keeps s → HistoryKept disk f (start_in format t) (take n (events_of t))
-  kept_front s t n format is g e k =
-      subst (HistoryKept disk f (start_in format t)) (sym (recorded_are s t g n e)) (in_format f.begun refl format is t (events_of s) (kept_as s t g k))
-
   pub kept_declaring : (s : Console) (table : List Declared) (limit : ℕ) → Grows s (Declaring table limit) → Keeps s → Keeps (Declaring table limit)
   kept_declaring (Open d) table limit g k = let no : false ≡ true = (g.opened refl).0 in absurd cc
   kept_declaring (Declaring before old) table limit g k =
@@ -180,7 +168,7 @@ module _ {D : Type 0} (disk : Disk D) (f : HistoryFile D) where
           left = h.left;
         })
 
-    -- the whole history was written anew
+    -- the whole history was written again
     pub between_anew : (c : List ℕ) → IsWhole c → c ≡ history_text (start_in declaring_format t) (events_of t) → LeavesBetween f.journal.sync disk.fills_with_zeros s t c
     between_anew c whole is = inl (record {
       format = declaring_format;
@@ -239,7 +227,7 @@ pub between_still : {D : Type 0} (disk : Disk D) (f : HistoryFile D)
     → LeavesOnly disk f.journal.device f.journal.device (LeavesBetween f.journal.sync disk.fills_with_zeros s t)
 between_still disk f s t g k now = between_rest disk f s t g k now
 
--- while the whole history is written anew
+-- while the whole history is written again
 pub anew_run : {D : Type 0} (disk : Disk D) (f : HistoryFile D) (new : D) (s t : Console) (state : Slow) → FitLines (start_in declaring_format t) state (events_of t) → Grows s t → ConsoleKept disk f s
     → LeavesOnly disk f.journal.device new (λ x. disk.may_leave f.journal.device x ⊎ (x ≡ history_text (start_in declaring_format t) (events_of t)))
     → LeavesOnly disk f.journal.device new (LeavesBetween f.journal.sync disk.fills_with_zeros s t)
@@ -250,10 +238,6 @@ anew_run disk f new s t state fit g k run =
     (λ x h. ⊎_elim (λ y. between_none disk f s t g k x y) (λ y. between_anew disk f s t g k x (subst IsWhole (sym y) whole) y) h)
 
 -- ---- a desk that is open
--- the file has some history
-pub some_kept : {D : Type 0} (disk : Disk D) (f : HistoryFile D) (s : Console) → KeepsConsole disk f s → IsTrue disk.is_honest → (start : Start) × (history : List Event) × HistoryKept disk f start history
-some_kept disk f s k honest = (start_in f.format s, events_of s, (k.1 honest).history)
-
 -- the format in which its events are recorded is one for them all
 pub open_format : {D : Type 0} (f : HistoryFile D) (s t : Console) (n format : ℕ) → Grows s t → n ≡ length (events_of s) → HasFormat f s → (b : Bool) → f.begun ≡ b
     → (f.begun ≡ true → format ≡ f.format) → (f.begun ≡ false → format ≡ format_for (checkpoint_of_console t) (events_of t))
@@ -279,11 +263,6 @@ pub open_kept : {D T E : Type 0} (disk : Disk D) (new : HistoryFile D) (d : Open
     → OnOk r (IsTrue disk.is_honest → new.begun ≡ true) → OnOk r (KeepsHistory disk new (start_in format (Open d)) d.desk.history) → OnOk r (KeepsConsole disk new (Open d))
 open_kept disk new d format (Ok x) is same begun kept = kept_open disk new d format is same begun kept
 open_kept disk new d format (Err x) is same begun kept = tt
-
-pub anew_open : {D T E : Type 0} (disk : Disk D) (new : HistoryFile D) (d : OpenDesk) (r : Result T E) → OnOk r (new.format ≡ declaring_format)
-    → OnOk r (new.begun ≡ true) → OnOk r (KeepsHistory disk new (start_in declaring_format (Open d)) d.desk.history) → OnOk r (KeepsConsole disk new (Open d))
-anew_open disk new d (Ok x) same begun kept = kept_open disk new d declaring_format (inr refl) same (λ honest. begun) kept
-anew_open disk new d (Err x) same begun kept = tt
 
 -- ---- a console that declares
 pub declaring_count : (K : Console → Type 0) (t : Console) (table : List Declared) (limit n : ℕ) → t ≡ Declaring table limit → MayCommit K t n → n ≡ length (events_of t)

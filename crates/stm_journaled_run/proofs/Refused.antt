@@ -1,5 +1,5 @@
 -- What a file keeps that refused a checkpoint.
-use Rattle.std.proofs.Common.{◌≡◌, ℕ, List, Result, Ok, Err, sym, ◌∙◌, subst}
+use Rattle.std.proofs.Common.{ℕ, List, Result, Ok, Err, sym, ◌∙◌, subst}
 use Rattle.stm_events.specs.declared.event.Event.{Event}
 use Rattle.stm_history_text.specs.Starts.{Start}
 use Rattle.stm_journal.specs.declared.replace.ReplaceError.{ReplaceError}

@@ -23,7 +23,7 @@ module _ {D : Type 0} (Cause : Type 0) (disk : Disk D) (sync : SyncMode) (zeros 
       joined disk old mid new (LeavesRun Cause sync zeros every s input) (LeavesRun Cause same zeros every s input) (LeavesRun Cause sync zeros every s input) first next (λ c h. h)
       (λ c h. subst (λ (m : SyncMode). LeavesRun Cause m zeros every s input c) e h)
 
-  -- the same of some lines
+  -- some lines after others
   pub lines_on : (lines : List (Turn Cause)) (old mid new : D) (same : SyncMode) → same ≡ sync → LeavesOnly disk old mid (CoversAnswers sync zeros every s lines []) → LeavesOnly disk mid new (CoversAnswers same zeros every s lines [])
       → LeavesOnly disk old new (CoversAnswers sync zeros every s lines [])
   lines_on lines old mid new same e first next =

@@ -14,7 +14,7 @@ use Rattle.stm_journaled_run.specs.Committing.{IsBehind, IsAfterLines, HasFailed
 use Rattle.stm_journaled_run.proofs.Committing.{line_more, may_commit, stopped_before, stopped_in, failed}
 use Rattle.stm_journaled_run.proofs.RunCrashes.{lines_run}
 
--- the same by another way to sync
+-- a run that has failed has done so by an equal way to sync
 pub failed_as : {Cause : Type 0} (honest : Bool) (sync same : SyncMode) (zeros : Bool) (may_leave : List ℕ → Type 0) (K : Console → Type 0) (every : ℕ) (s : Console) (lines : List (Turn Cause)) (old new : Option (List ℕ)) (e : DurableFault) → sync ≡ same
     → HasFailed honest sync zeros may_leave K every s lines old new e → HasFailed honest same zeros may_leave K every s lines old new e
 failed_as honest sync same zeros may_leave K every s lines old new e is h = subst (λ (m : SyncMode). HasFailed honest m zeros may_leave K every s lines old new e) is h

@@ -1,5 +1,5 @@
 -- What a line leaves, by how it was taken.
-use Rattle.std.proofs.Common.{◌≡◌, ◌≢◌, inl, inr, ℕ, zero, ◌<◌, ◌≤◌, List, [], ◌++◌, length, Bool, true, false, cond, not, IsTrue, Err, refl, sym, ap, ap₂, ◌∙◌, subst, arith, append-nil}
+use Rattle.std.proofs.Common.{◌≡◌, ◌≢◌, inl, inr, ℕ, zero, ◌<◌, ◌≤◌, List, ◌++◌, length, Bool, true, false, cond, not, IsTrue, Err, refl, sym, ap, ap₂, ◌∙◌, subst, arith}
 use Rattle.std.specs.Prelude.{◌⊎◌, nat_lt, nat_le, ◌&&◌, codes}
 use Rattle.std.proofs.lemmas.Bool.Decides.{nat_tests}
 use Rattle.std.proofs.lemmas.Bool.{le-leb, lt-ltb}
@@ -26,7 +26,6 @@ use Rattle.stm_run.specs.LineCheckpoints.{auto_checkpoint, auto_step, line_check
 use Rattle.stm_run.proofs.EventsOfConsole.{grows_not}
 use Rattle.stm_journaled_run.specs.declared.session.Taken.{Taken}
 use Rattle.stm_journaled_run.specs.declared.session.Taken.TheVariants.{Held, Begun, Unmade, Streamed}
-use Rattle.stm_journaled_run.specs.declared.fault.DurableFault.{DurableFault}
 use Rattle.stm_journaled_run.specs.declared.fault.DurableFault.TheVariants.{Run, Journal}
 use Rattle.stm_journaled_run.specs.declared.session.Tried.TheVariants.{Made, TicketsFull, RefusedByFile}
 use Rattle.stm_journaled_run.specs.DurableRun.{ConsoleKept, KeepsConsole, KeepsConsoles, RecordsUnlessDisk, RunsUnlessDisk, RefusalCause, LeavesBetween}
@@ -36,10 +35,6 @@ use Rattle.stm_journaled_run.proofs.Committing.{none_due, anew_after}
 use Rattle.stm_journaled_run.proofs.RecordedEvents.{between_still}
 
 -- ---- the checkpoint that a line asks for
-pub open_is : (s : Console) → is_open s ≡ true → Open (present_desk s) ≡ s
-open_is (Declaring table limit) e = absurd (cc e)
-open_is (Open d) e = refl
-
 -- by whether tickets could run out after it
 abbrev asked_by : Console → Bool → Console × List ℕ
 asked_by s b =
@@ -47,9 +42,6 @@ asked_by s b =
 
 pub asked_made : (s : Console) → are_tickets_full (present_desk s) ≡ false → asked_step s ≡ (with_checkpoint s, checkpoint_line (length (events_of s)))
 asked_made s e = ap (asked_by s) e
-
-pub asked_full : (s : Console) → is_open s ≡ true → are_tickets_full (present_desk s) ≡ true → asked_step s ≡ (s, refused (codes "TicketsFull"))
-asked_full s o e = ap (asked_by s) e ∙ ap (λ (c : Console). (c, refused (codes "TicketsFull"))) (open_is s o)
 
 few_by : (s : Console) (b : Bool) → length (events_of (asked_by s b).0) ≤ length (events_of s)
 few_by s true = omega arith
@@ -142,9 +134,6 @@ module _ {D : Type 0} (disk : Disk D) (old new : HistoryFile D) where
       (h.0 ∙ o.0, h.1 ∙ o.1, h.2 ∙ count, h.3, h.4)
   taken_as made made' unmade unmade' t before mid after n n' m (Streamed r) count state text other h = (h.0 ∙ state, h.1 ∙ text, h.2 ∙ count, h.3)
 
-  pub not_taken_as : (made made' : Console) (e : DurableFault) → made ≡ made' → HasNotTaken disk old new made e → HasNotTaken disk old new made' e
-  not_taken_as made made' e is h = subst (λ (c : Console). HasNotTaken disk old new c e) is h
-
   -- ---- what a crash leaves meanwhile
   pub taking_leaves : (s t made : Console) (n : ℕ) → Grows s t → VariablesFit (table_of t) → (asked_step t).0 ≡ made → BeginningLeavesEither disk old new t → TakingLeaves disk old new s n made
   taking_leaves s t made n g v is h = λ honest c.
@@ -201,9 +190,6 @@ module _ {D : Type 0} (disk : Disk D) (old new : HistoryFile D) (s t : Console) 
     abbrev Asked : Taken → Type 0
     Asked k = HasTakenLine disk old new (asked_step s) (s, no_checkpoint_text) t mid after n n' k
 
-    abbrev Due : Taken → Type 0
-    Due k = HasTakenLine disk old new ((asked_step s).0, []) (s, []) t mid after n n' k
-
     pub asked_begun : (count : ℕ) → HasTriedCheckpoint disk old new s t n n' (Made count) → after ≡ mid ++ checkpoint_line count → Asked Begun
     asked_begun count h text =
         (sym (ap (λ (p : Console × List ℕ). p.0) h.0), text ∙ sym (ap (λ (p : Console × List ℕ). mid ++ p.1) h.0), h.1, h.2, h.3)
@@ -213,19 +199,6 @@ module _ {D : Type 0} (disk : Disk D) (old new : HistoryFile D) (s t : Console) 
 
     pub asked_unmade : HasTriedCheckpoint disk old new s t n n' RefusedByFile → after ≡ mid ++ no_checkpoint_text → Asked Unmade
     asked_unmade h text = (h.1, text, h.2, h.3, h.4)
-
-    pub due_begun : (count : ℕ) → HasTriedCheckpoint disk old new s t n n' (Made count) → after ≡ mid → Due Begun
-    due_begun count h text = (sym (ap (λ (p : Console × List ℕ). p.0) h.0), text ∙ sym (append-nil mid), h.1, h.2, h.3)
-
-    pub due_held : HasTriedCheckpoint disk old new s t n n' TicketsFull → after ≡ mid → Due Held
-    due_held h text = (sym (ap (λ (p : Console × List ℕ). p.0) h.0), text ∙ sym (append-nil mid), h.2, h.3)
-
-    pub due_unmade : HasTriedCheckpoint disk old new s t n n' RefusedByFile → after ≡ mid → Due Unmade
-    due_unmade h text = (h.1, text ∙ sym (append-nil mid), h.2, h.3, h.4)
-
-    -- it isn't tried again yet
-    pub due_later : t ≡ s → after ≡ mid → n' ≡ n → KeepsConsoles disk old new → RefusalCause disk → Due Unmade
-    due_later is text count keeps why = (is, text ∙ sym (append-nil mid), count, keeps, why)
 
   -- memory ran out after it
   pub made_untaken : (count : ℕ) → HasTriedCheckpoint disk old new s t n n' (Made count) → HasNotTaken disk old new (asked_step s).0 (Run NoMemoryLeft)

@@ -126,7 +126,7 @@ IsNoJournalFault (Err (Journal e)) = ⊥
 abbrev pub long_or_full : Own
 long_or_full = record { full = ⊤; too_long = ⊤; torn_too_long = ⊥ }
 
--- recording fails only by the disk, for want of memory, or since a batch or the file is too long
+-- recording fails only by the disk, if memory runs out, or if a batch or the file is too long
 abbrev pub RecordsUnlessDisk : {D T : Type 0} → Disk D → Result T JournalError → Type 0
 RecordsUnlessDisk disk result = FailsOnlyIfAny disk long_or_full result
 

@@ -1,4 +1,4 @@
--- What `submit`, `declare`, `finish`, `cancel` and `label` do is allowed where they aren't refused, so the desk goes on standing.
+-- What `submit`, `declare`, `finish`, `cancel` and `label` do is allowed if they aren't refused, so the desk goes on standing.
 use Rattle.std.proofs.Common.{◌≡◌, ℕ, ◌+◌, ◌<◌, ◌≤◌, Bool, true, false, cond, not, List, [], ◌∷◌, length, Option, Some, None, refl, sym, subst, ap, arith}
 use Rattle.std.specs.Prelude.{nat_le, nat_lt, is_some, IsSomeAnd, IsTrue}
 use Rattle.std.proofs.lemmas.Bool.Decides.{nat_tests}

@@ -14,7 +14,7 @@ use Rattle.stm_events.proofs.Rising.{not_above}
 use Rattle.stm_commands.specs.DueTickets.{due_tickets, tickets_out}
 use Rattle.stm_commands.proofs.KeptQueue.{QueueKept, filtered_above, member_tickets}
 
--- ---- rising lists with the same members are equal
+-- ---- ascending lists with the same members are equal
 from_above : (k : ℕ) (ts : List ℕ) → RisesAbove k ts → IsRising ts
 from_above k [] r = tt
 from_above k (t ∷ ts) r = r.1

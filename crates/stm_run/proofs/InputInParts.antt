@@ -14,9 +14,6 @@ answers_to-judged : (s t : Console) (line other : List ℕ) (more : List (List �
 unfolding step
 answers_to-judged s t line other more e n = ap (λ j. (class_step s j).1 ++ answers_to (class_step s j).0 more) (sym e) ∙ ap (λ u. answer_to s line ++ answers_to u more) (sym n)
 
-pub Continues-nil : (s : Console) → Continues s s [] []
-Continues-nil s = record { all = λ more. refl; whole = λ more. refl }
-
 -- a line that a line feed ends
 pub Continues-line : (s t : Console) (line bytes : List ℕ) → NoLineFeed bytes → line_class line ≡ line_class (drop_return bytes) → t ≡ state_after s line
     → Continues s t (bytes ++ 10 ∷ []) (answer_to s line)

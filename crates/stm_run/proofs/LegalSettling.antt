@@ -44,7 +44,7 @@ lowest_there : (p : Waiter → Bool) (n k : ℕ) (ws : List Waiter) (w : Waiter)
 lowest_there p n k [] w r e = absurd cc
 lowest_there p n k (x ∷ xs) w r e = lowest_first p k x xs w (p x) refl r.0 (lowest_there p n x.ticket xs w r.2) e
 
--- where there is none, the test holds of none that waits
+-- if there is none, the test holds of none that waits
 none_first : (p : Waiter → Bool) (x : Waiter) (xs : List Waiter) (t : ℕ) (w : Waiter) (b c : Bool) → p x ≡ b → (lowest p xs ≡ None → find_waiter t xs ≡ Some w → p w ≡ false)
     → cond b (Some x) (lowest p xs) ≡ None → cond c (Some x) (find_waiter t xs) ≡ Some w → p w ≡ false
 none_first p x xs t w true c h more e f = absurd cc
@@ -56,7 +56,7 @@ lowest_none p [] t w e f = absurd cc
 lowest_none p (x ∷ xs) t w e f = none_first p x xs t w (p x) (nat_eq t x.ticket) refl (lowest_none p xs t w) e f
 
 -- ---- what settling does next
--- where the store has room for its new variables, it is allowed
+-- if the store has room for its new variables, it is allowed
 abbrev pub IsAllowed : Slow → Option What → Type 0
 IsAllowed s None = Unit {0}
 IsAllowed s (Some what) = has_cells s what ≡ true → Allows s what × SubmitsWellTyped what

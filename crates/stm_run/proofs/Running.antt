@@ -1,11 +1,11 @@
 -- What a run has written, from what it has taken.
 use Rattle.std.proofs.Common.{◌≡◌, ℕ, ◌<◌, Result, Ok, Err, OnErr, Option, Some, None, IfSome, List, [], ◌∷◌, ◌++◌, length, refl, sym, ap, ◌∙◌, subst, append_assoc, append-nil}
-use Rattle.std.specs.Io.KnownBytes.{Appends, Consumes, Keeps, prepend_known}
-use Rattle.std.proofs.KnownBytes.{Appends-nil, Appends-trans, Appends-kept, Consumes-nil, Consumes-trans, prepend_known-nil}
+use Rattle.std.specs.Io.KnownBytes.{Appends, Keeps, prepend_known}
+use Rattle.std.proofs.KnownBytes.{Appends-nil, Appends-trans, Appends-kept, Consumes-trans}
 use Rattle.stm_lines.specs.LineClass.{line_class}
 use Rattle.stm_lines.specs.Lines.{drop_return}
 use Rattle.stm_lines.specs.TakenLines.{TakesPartOfLine, TakesLastLine, TakesWholeLine}
-use Rattle.stm_run.proofs.InputInParts.{Continues-nil, Continues-line, Continues-trans, rest_text-last, rest_text-nil, whole_rest_text-begun, IsPrefixOf-line}
+use Rattle.stm_run.proofs.InputInParts.{Continues-line, Continues-trans, rest_text-last, rest_text-nil, whole_rest_text-begun, IsPrefixOf-line}
 use Rattle.stm_terms.specs.Texts.{IsPrefixOf}
 use Rattle.stm_run.specs.Streaming.{RunState, HasAnswered, HasAnsweredAll, HasAnsweredPart, HasAnsweredWhole, rest_text}
 use Rattle.stm_run.specs.declared.console.Console.{Console}
@@ -76,15 +76,6 @@ read_failed s (Some i) (Some rest) x chunk h e =
     (h.0, rest, h.1.taken ∙ ap (λ l. h.0 ++ (l ++ rest)) e, refl, subst (Appends x x) (sym (whole_rest_text-begun s h.0 h.1.plain)) (Appends-nil x))
 
 -- ---- one line after another
-pub HasAnswered-begin : (s : Console) (a b x : Option (List ℕ)) (chunk : List ℕ) → chunk ≡ [] → b ≡ prepend_known chunk a → HasAnswered (run_at s a x) (run_at s b x)
-HasAnswered-begin s a b x chunk e q = record {
-  taken = [];
-  written = [];
-  consumed = subst (λ (o : Option (List ℕ)). Consumes a o []) (sym (q ∙ ap (λ l. prepend_known l a) e ∙ prepend_known-nil a)) (Consumes-nil a);
-  continues = Continues-nil s;
-  appended = Appends-nil x;
-}
-
 pub HasAnswered-more : (s t u : Console) (a b c x y y' z : Option (List ℕ)) → HasAnswered (run_at s a x) (run_at t b y) → Keeps y y' → HasAnswered (run_at t b y') (run_at u c z) → HasAnswered (run_at s a x) (run_at u c z)
 HasAnswered-more s t u a b c x y y' z h f k = record {
   taken = h.taken ++ k.taken;

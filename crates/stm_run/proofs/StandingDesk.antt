@@ -74,7 +74,7 @@ pub typed_later : (es : List Event) (e : Event) → SubmittedAreWellTyped es →
 typed_later [] e h w = (w, tt)
 typed_later (x ∷ es) e h w = (h.0, typed_later es e h.1 w)
 
--- an event that is allowed keeps it, where there is room for it
+-- an event that is allowed keeps it, if there is room for it
 pub stands_event : (d : DeskView) (jobs : List HandedOut) (what : What) → is_full d ≡ false → Allows (state_of d) what → SubmitsWellTyped what → Stands d jobs → Stands (with_event d 0 what) jobs
 stands_event d jobs what room a w k =
     let first = start_of d.table d.checkpoint in
@@ -115,7 +115,7 @@ taken_at s [] n j k e = absurd cc
 taken_at s (x ∷ xs) zero j k e = let q : x ≡ j = cc in subst (λ (y : HandedOut). IsTicketOf y.block s y.ticket) q k.0
 taken_at s (x ∷ xs) (suc n) j k e = taken_at s xs n j k.1 e
 
--- the same desk, with other jobs
+-- a desk that stands does so with other jobs
 pub stands_with : (d : DeskView) (old new : List HandedOut) → AllTaken (state_of d) new → Stands d old → Stands d new
 stands_with d old new t k =
     record { start = k.start; begins = k.begins; legal = k.legal; typed = k.typed; limit_low = k.limit_low; taken = t; queue = k.queue }

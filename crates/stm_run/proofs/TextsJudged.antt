@@ -8,12 +8,10 @@ use Rattle.stm_terms.specs.ParsedAst as raw
 use Rattle.stm_terms.specs.Ast.{Act}
 use Rattle.stm_terms.specs.Typing.{ActionType, uses_of}
 use Rattle.stm_parse.specs.declared.fault.ParseFault.{ParseFault}
-use Rattle.stm_parse.specs.declared.fault.ParseFault.TheVariants as parse
 use Rattle.stm_parse.specs.Declarations.{ParsedInit, literal, named, ParsedDeclaration}
 use Rattle.stm_parse.specs.Grammar.{IsBlock, DeclarationTree as Tree, IsDeclaration}
 use Rattle.stm_parse.specs.ParseFunction.{IsAnswer, parsed_block, declared_tree, declaration_result, parsed_declaration, BlockAnswersAreRight, DeclarationAnswersAreRight}
 use Rattle.stm_check.specs.declared.fault.TypeFault.{TypeFault}
-use Rattle.stm_check.specs.declared.fault.TypeFault.TheVariants as typed
 use Rattle.stm_check.specs.CheckFunction.{checked}
 use Rattle.stm_check.specs.Laws.{CheckNeverSaysNoMemory}
 use Rattle.stm_check.specs.TypedBlock.{Block}

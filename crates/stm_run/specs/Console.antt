@@ -115,6 +115,6 @@ initial_console max_events = Declaring [] max_events
 unfoldable pub console_text : ℕ → List ℕ → List ℕ
 console_text max_events input = answers_to (initial_console max_events) (lines_of input)
 
--- the same for those lines of it that a line feed ends
+-- what the console writes for those lines of an input that a line feed ends
 unfoldable pub whole_lines_text : ℕ → List ℕ → List ℕ
 whole_lines_text max_events input = answers_to (initial_console max_events) (whole_lines_of input)

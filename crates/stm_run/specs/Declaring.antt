@@ -7,7 +7,7 @@ use Rattle.stm_run.specs.declared.console.Console.TheVariants.{Declaring, Open}
 use Rattle.stm_source.specs.declared.refusal.Refusal.{Refusal}
 use Rattle.stm_commands.specs.Refusals.{refused, refusal_text}
 
--- the line that tells the number and the name of a new variable
+-- the line that reports the number and the name of a new variable
 unfoldable pub tvar_line : ℕ → List ℕ → List ℕ
 tvar_line number name = codes "tvar #" ++ decimal number ++ 32 ∷ name ++ 10 ∷ []
 

@@ -8,6 +8,6 @@ use Rattle.stm_run.specs.declared.console.Console.{Console}
 use Rattle.stm_run.specs.declared.console.Console.TheVariants.{Open}
 use Rattle.stm_commands.specs.OpenDesk.{OpenDesk}
 
--- the console ends open, with the desk that is last behind the reference; where there is none, it stays as it was
+-- the console ends open, with the desk that the reference has last; if there is no reference, it stays as it was
 abbrev pub LendsDesk : MutBor Console → Result (MutBor OpenDesk) AllocError → Fml
 LendsDesk c r = LendsIfOk console.the_row opened.the_row c r (λ d. Open d) c.now

@@ -19,12 +19,12 @@ abbrev pub command_checkpoints : Console → Command → List ℕ → Bool
 command_checkpoints s Checkpoint argument = makes_checkpoint (present_desk s) argument
 command_checkpoints s command argument = false
 
--- the same of a word
+-- whether the command of a word makes a checkpoint
 abbrev pub word_checkpoints : Console → Option Command → List ℕ → Bool
 word_checkpoints s (Some command) argument = command_checkpoints s command argument
 word_checkpoints s None argument = false
 
--- the same of a line, by its judgement
+-- whether a line makes a checkpoint, by its judgement
 abbrev pub class_checkpoints : Console → LineClass → Bool
 class_checkpoints s TooLong = false
 class_checkpoints s Silent = false
@@ -62,7 +62,7 @@ abbrev pub auto_checkpoint : ℕ → Console → Console
 auto_checkpoint every (Declaring table limit) = Declaring table limit
 auto_checkpoint every (Open d) = Open (checkpoint_if every d)
 
--- the same after a line that adds an event: the earlier console is the one before the line
+-- such a checkpoint is made after a line that adds an event: the earlier console is the one before the line
 abbrev pub auto_step : ℕ → Console → Console → Console
 auto_step every earlier later =
     if nat_lt (length (events_of earlier)) (length (events_of later)) then auto_checkpoint every later else later

@@ -11,7 +11,7 @@ use Rattle.stm_run.specs.Console.{answers_to}
 unfoldable pub rest_text : Console → List ℕ → List ℕ
 rest_text s rest = answers_to s (lines_of rest)
 
--- the same for those lines of them that a line feed ends
+-- what is written for those lines of the bytes that follow which a line feed ends
 unfoldable pub whole_rest_text : Console → List ℕ → List ℕ
 whole_rest_text s rest = answers_to s (whole_lines_of rest)
 

@@ -460,7 +460,7 @@ impl Console {
         }
     }
 
-    /// Writes the history, where the desk is open.
+    /// Writes the history, if the desk is open.
     pub fn write_history<W: Write>(&self, alloc: Global, writer: &mut W) -> Result<(), WriteFault>
         ensures { WritesText result (W.contents writer.old) (W.contents writer.new)
             (history_of self.now) }

@@ -49,12 +49,12 @@ use Rattle.stm_desk.proofs.Starts.{IsTypedHistory}
 use Rattle.stm_commands.specs.OpenDesk.{HandedOut}
 use Rattle.stm_run.proofs.StandingDesk.{Stands, stands_typed, state_later, legal_later, typed_later}
 
--- from here these events tell what each block waits for
+-- from here these events show what each block waits for
 pub record TellReasons (table : List Declared) (checkpoint : Option CheckpointView) (history : List Event) : Type 0 where
   pub start : MayStart table checkpoint
   pub typed : IsTypedHistory (start_of table checkpoint) history
 
--- the same of a desk
+-- the events of a desk show what each block waits for
 abbrev pub HasReasons : DeskView → Type 0
 HasReasons d = TellReasons d.table d.checkpoint d.history
 
@@ -169,7 +169,7 @@ silent block store_then v s (e ∷ es) had f h n =
     let none : changes_told reads e.what ≡ [] = sym (told_here reads s e.what f.0 h).0 ∙ unchanged reads (under (after s e.what).store) now in
     ap (λ (cs : List Change). cause_or (ticket_of e.what) cs (cause_told reads es)) none ∙ silent block store_then v (after s e.what) es had f.1 now p.1
 
--- ---- so nothing tells a cause of a current block
+-- ---- so nothing gives a cause of a current block
 was_fresh : (w : Waiter) (s : Since) → w.since ≡ Some s → is_stale_since w.block s ≡ false → was_stale (Some w) ≡ false
 was_fresh w s e h =
     ap (λ (o : Option Since). not (is_new_since o) && not (current_since w.block o)) e ∙ ap (λ (b : Bool). not (not b)) h
@@ -305,7 +305,7 @@ same_stale w w' s s' m e e' =
     flip false false q = refl
 
 module _ (d d' : DeskView) (k : HasReasons d) (k' : HasReasons d') (t : ℕ) (same : reason_of d t ≡ reason_of d' t) where
-  -- what is told of a block that waits on both
+  -- what is said of a block that waits on both
   by_stale : (b : Bool) (w w' : Waiter) (s s' : Since) → is_stale_since w.block s ≡ b → is_stale_since w'.block s' ≡ b → find_waiter t (state_of d).waiters ≡ Some w → find_waiter t (state_of d').waiters ≡ Some w' → w.since ≡ Some s → w'.since ≡ Some s'
       → told d t (reads_of (under s.store_then) w.block.tree) ≡ told d' t (reads_of (under s'.store_then) w'.block.tree)
   by_stale true w w' s s' h h' f f' e e' = sym (reason_stale d t w s k f e h) ∙ same ∙ reason_stale d' t w' s' k' f' e' h'

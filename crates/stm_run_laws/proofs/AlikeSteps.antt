@@ -1,4 +1,4 @@
--- Desks of which the same is observed do the same at each command, unless one of them tells that its history has no room.
+-- Desks of which the same is observed do the same at each command, unless one of them reports that its history has no room.
 use Rattle.std.proofs.Common.{◌≡◌, ◌⊎◌, inl, inr, ℕ, zero, suc, ◌+◌, ◌-◌, ◌≤◌, Bool, true, false, cond, not, List, [], ◌∷◌, ◌++◌, length, Option, Some, None, Result, Ok, Err, refl, sym, ap, ap₂, ◌∙◌, subst, arith}
 use Rattle.std.specs.Prelude.{nat_lt, nat_le, codes, is_some, take, option_map, IsTrue}
 use Rattle.std.proofs.lemmas.Bool.Decides.{nat_tests}
@@ -78,7 +78,7 @@ pub record AlikeSteps (b : Bool) (p p' : DeskView × List ℕ) : Type 0 where
   pub desks : AlikeDesks b p.0 p'.0
   pub text : p.1 ≡ p'.1
 
--- neither answer tells that its history is full, where the second is not known to be no longer
+-- neither answer reports that its history is full, if the second is not known to be no longer
 abbrev pub NotFull : Bool → List ℕ → List ℕ → Type 0
 NotFull b x x' = ¬ TellsFull x × (b ≡ false → ¬ TellsFull x')
 

@@ -1,4 +1,4 @@
--- On a desk that stands, each command answers with a text that ends with a line feed: `try` has a verdict to tell, `finish`
+-- On a desk that stands, each command answers with a text that ends with a line feed: `try` has a verdict to print, `finish`
 -- has an effect, and no refusal is an out-of-memory error.
 use Rattle.std.proofs.Common.{◌≡◌, ℕ, ◌+◌, Bool, true, false, List, ◌∷◌, ◌++◌, length, Option, Some, None, Result, Ok, Err, refl, sym, subst, ap, ◌∙◌}
 use Rattle.std.specs.Prelude.{codes, decimal, is_some, nat_lt, nat_le, ◌-◌, drop}

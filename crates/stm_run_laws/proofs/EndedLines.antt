@@ -132,12 +132,12 @@ cells_end : (i : ℕ) (names : List Named) (cells : List Cell) → EndsALine (10
 cells_end i names [] = ([], refl)
 cells_end i names (c ∷ cs) = behind (10 ∷ cell_line (name_numbered i names) c) (10 ∷ cell_lines_from (i + 1) names cs) (cells_end (i + 1) names cs)
 
--- lines of events behind a line feed
+-- lines of events after a line feed
 events_end : (history : List Event) → EndsALine (10 ∷ event_lines history)
 events_end [] = ([], refl)
 events_end (x ∷ xs) = behind (10 ∷ event_line x) (10 ∷ event_lines xs) (events_end xs)
 
--- lines behind a text that ends with one
+-- lines after a text that ends with one
 joined : (text lines : List ℕ) → EndsALine text → EndsALine (10 ∷ lines) → EndsALine (text ++ lines)
 joined text lines e more =
     let all : e.0 ++ 10 ∷ [] ++ lines ≡ e.0 ++ (10 ∷ lines) = append_assoc e.0 (10 ∷ []) lines in
@@ -152,6 +152,6 @@ before_end format table (Some c) =
 pub history_ends : (start : Start) (history : List Event) → EndsALine (history_text start history)
 history_ends start history = joined (start_text start) (event_lines history) (before_end start.format start.table start.checkpoint) (events_end history)
 
--- and so does a line behind the lines of events
+-- and so does a line after the lines of events
 pub counted_end : (history : List Event) (line : List ℕ) → EndsALine (event_lines history ++ (line ++ 10 ∷ []))
 counted_end history line = behind (event_lines history) (line ++ 10 ∷ []) (line, refl)

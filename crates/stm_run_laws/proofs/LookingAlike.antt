@@ -116,7 +116,7 @@ alike_pending b d d' es es' e k =
       fewer = k.fewer;
     }
 
--- ---- a full history is told, or makes no difference
+-- ---- a full history is reported, or makes no difference
 fewer_full : (l m n : ℕ) → m ≤ n → nat_le l m ≡ true → nat_le l n ≡ true
 fewer_full l m n h e = grind (arith, nat_tests)
 

@@ -76,7 +76,7 @@ AlikeConsoles b (Open d) (Open d') = AlikeOpen b d d'
 AlikeConsoles b (Declaring table limit) s' = ⊥
 AlikeConsoles b (Open d) (Declaring table limit) = ⊥
 
--- what follows if neither answer tells that its history is full
+-- what follows if neither answer reports that its history is full
 abbrev Follows : Bool → OpenDesk × List ℕ → OpenDesk × List ℕ → Type 0
 Follows b p p' = NotFull b p.1 p'.1 → AlikeResults b p p'
 
@@ -397,10 +397,6 @@ module _ (blocks : BlockAnswersAreRight) (declarations : DeclarationAnswersAreRi
   opened_related every true (Declaring table limit) r = refl
   opened_related every false (Declaring table limit) r = refl
   opened_related every c (Open d) r = step_related every c (Open d) (Open d) r (record { desks = itself_alike true d.desk d.jobs r; jobs = refl })
-
-  from_related : (t s : Console) → is_open t ≡ true → Related t s → AlikeConsoles true t s
-  from_related (Declaring table limit) s e k = absurd (cc e)
-  from_related (Open d) s e k = k
 
   to_related : (t s : Console) → AlikeConsoles true t s → Related t s
   to_related (Declaring table limit) s k = absurd k

@@ -31,13 +31,13 @@ desk_after_lines max_events lines = state_of (present_desk (state_after_lines (i
 abbrev pub pending_after_lines : ℕ → List (List ℕ) → List Entry
 pending_after_lines max_events lines = (present_desk (state_after_lines (initial_console max_events) lines)).desk.pending
 
--- a block that isn't new stands with a verdict
+-- a block that isn't new has a verdict
 abbrev pub HasVerdict : slow.Standing → Type 0
 HasVerdict slow.New = Unit {0}
 HasVerdict (slow.Stale v) = IsSome v
 HasVerdict (slow.Current v) = IsSome v
 
--- so `show` has a verdict to tell for each waiting block that isn't new, whatever lines came before
+-- so `show` has a verdict to print for each waiting block that isn't new, whatever lines came before
 abbrev pub VerdictsAreShown : Type 0
 VerdictsAreShown =
     (max_events : ℕ) → max_events ≤ limits.max_events → (before : List (List ℕ)) (i : ℕ) (w : slow.Waiter)

@@ -1,4 +1,4 @@
--- Nobody can tell from an answer whether a checkpoint was made. The commands `history` and `events`, which speak of the events, and
+-- No answer shows whether a checkpoint was made. The commands `history` and `events`, which speak of the events, and
 -- `checkpoint` are left aside, and so is the room that a history has for events.
 use Rattle.std.specs.Prelude.{◌≡◌, ◌⊎◌, ⊤, ℕ, ◌≤◌, Bool, true, false, List, [], ◌∷◌, ◌++◌, Option, Some, None, codes}
 use Rattle.stm_events.specs.Labels.{label_of}
@@ -40,27 +40,27 @@ is_of_history Events = true
 is_of_history Checkpoint = true
 is_of_history command = false
 
--- the same of a word
+-- the command of a word speaks of the events, or makes a checkpoint
 abbrev pub word_is_of_history : Option Command → Bool
 word_is_of_history (Some command) = is_of_history command
 word_is_of_history None = false
 
--- the same of a line, by its judgement
+-- a line speaks of the events, or makes a checkpoint, by its judgement
 abbrev pub class_is_of_history : LineClass → Bool
 class_is_of_history TooLong = false
 class_is_of_history Silent = false
 class_is_of_history NotAscii = false
 class_is_of_history (Words word argument) = word_is_of_history (command_named word)
 
--- the same of a line
+-- a line speaks of the events, or makes a checkpoint
 abbrev pub line_is_of_history : List ℕ → Bool
 line_is_of_history line = class_is_of_history (line_class line)
 
--- the answer tells that the history has no room
+-- the answer reports that the history has no room
 abbrev pub TellsFull : List ℕ → Type 0
 TellsFull answer = (answer ≡ refused (codes "HistoryFull")) ⊎ ((counts : List ℕ) × (answer ≡ codes "stopped HistoryFull " ++ counts))
 
--- no line is of the history, and no answer tells that
+-- no line is of the history, and no answer reports that it has no room
 abbrev pub HaveRoom : Console → List (List ℕ) → Type 0
 HaveRoom s [] = ⊤
 HaveRoom s (line ∷ rest) =

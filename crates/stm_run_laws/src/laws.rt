@@ -1,5 +1,5 @@
-//! What holds of the console's text. Each function is a law: its contract says it, and its body
-//! does nothing but call the laws that it rests on.
+//! What holds of the console's text. Each function is a law: its contract says it, and its body does nothing but call the laws
+//! that it rests on.
 
 ghost use Rattle.stm_commands.specs.DueTickets.{OutTicketsAreASet};
 ghost use Rattle.stm_run_laws.specs.Laws.{EachLineIsAnswered, QueueIsOfDueTickets, VerdictsAreShown};
@@ -7,7 +7,7 @@ ghost use Rattle.stm_run_laws.specs.ReadBack.{EventsFitLines, HistoriesAreReadBa
 ghost use Rattle.stm_run_laws.specs.Unseen.{CheckpointsAreUnseenByCommands};
 
 /// A line that is neither blank nor a comment is answered by a text that ends with a line feed, whatever lines came before
-/// it. So `try` always has a verdict to tell, `finish` an effect, and an out-of-memory error is the text of no refusal.
+/// it. So `try` always has a verdict to print, `finish` an effect, and an out-of-memory error is the text of no refusal.
 pub fn each_line_is_answered()
     ensures { EachLineIsAnswered }
 {
@@ -18,8 +18,7 @@ pub fn each_line_is_answered()
     stm_history::laws::checked_are_well_typed();
 }
 
-/// Each waiting block that isn't new stands with a verdict, whatever lines came before: so none that `show` has to tell is
-/// missing.
+/// Each waiting block that isn't new has a verdict, whatever lines came before: so none that `show` has to print is missing.
 pub fn verdicts_are_shown()
     ensures { VerdictsAreShown }
 {
