@@ -50,7 +50,7 @@ pub record Enters (a : App) (name : Text) : Type 0 where
 whole_walk : (a : App) (name : Text) (rest : List Text) → Enters a name → fold (walked a.top.rules (names_of a)) (walk_from nothing_held) (name ∷ rest) ≡ stopped name rest
 whole_walk a name rest e = ap (λ (w : Walk). fold (walked a.top.rules (names_of a)) w rest) e.step ∙ stopped_walk a.top.rules (names_of a) name [] rest
 
--- what there is to tell then
+-- what there is to report then
 abbrev pub kinds_after : App → Bool → Kinds
 kinds_after a has_subcommand =
     or_else (settle_fault a.top.rules a.top.args_override_self nothing_held) (or_else (defaults_fault (settled a.top.rules nothing_held).rows a.top.rules)

@@ -74,7 +74,7 @@ pub clap_answered : {T : Type 0} (a : App) (words : List (List ℕ)) (r : Result
 clap_answered a words r same h =
     clap_answer words r (subst (λ (b : App). FailsBy (fault_of b words) r) same (h (ap is_simple_and_free same ∙ exact)))
 
--- what the subcommand is, where clap takes the words
+-- what the subcommand is, if clap takes the words
 entered_rows : (a : App) (words : List (List ℕ)) (m : ArgMatches) → a ≡ command_line → HasMatchesOf a words m → subcommand_rows_of m ≡ subcommand_of command_line words
 entered_rows a words m same h = (h (ap is_simple same ∙ simple)).1 ∙ ap (λ (b : App). subcommand_of b words) same
 
@@ -353,6 +353,6 @@ among_none : (e : Error) → HasKind [] e → kind_of e ≡ OutOfMemory
 among_none e (inl same) = same
 among_none e (inr h) = absurd h
 
--- where there is nothing to tell, what is reported is an out-of-memory error
+-- if there is nothing to report, what is reported is an out-of-memory error
 pub memory_kind : (kinds : Kinds) (e : Error) → HasKind kinds e → kinds ≡ [] → kind_of e ≡ OutOfMemory
 memory_kind kinds e h none = among_none e (subst (λ (ks : Kinds). HasKind ks e) none h)

@@ -140,7 +140,7 @@ run_fault rows =
     or_else (sync_fault (first_of (codes "sync") rows) (is_said (codes "journal") rows))
     (checkpoint_fault (is_said (codes "checkpoint-every") rows) (is_said (codes "journal") rows))
 
--- what is wrong with the options of a journal where there can be none
+-- what is wrong with the options of a journal if there can be no journal
 abbrev pub journal_fault : Bool → Bool → Bool → Kinds
 journal_fault has_journal has_sync has_checkpoint =
     if has_journal || (has_sync || has_checkpoint) then UnknownArgument ∷ [] else []
@@ -169,7 +169,7 @@ is_mistake DisplayHelp = false
 is_mistake DisplayVersion = false
 is_mistake _ = true
 
--- there is something to tell, and all of it is that the words are wrong
+-- there is something to report, and all of it is that the words are wrong
 abbrev pub are_mistakes : Kinds → Bool
 are_mistakes [] = false
 are_mistakes (kind ∷ kinds) = list_all is_mistake (kind ∷ kinds)
@@ -178,7 +178,7 @@ are_mistakes (kind ∷ kinds) = list_all is_mistake (kind ∷ kinds)
 abbrev pub has_mistake : List (List ℕ) → Bool
 has_mistake words = are_mistakes (answers_of words)
 
--- all that there is to tell is help
+-- all that there is to print is help
 abbrev pub is_help : Kinds → Bool
 is_help (DisplayHelp ∷ []) = true
 is_help _ = false
@@ -187,7 +187,7 @@ is_help _ = false
 abbrev pub asks_for_help : List (List ℕ) → Bool
 asks_for_help words = is_help (answers_of words)
 
--- all that there is to tell is the version
+-- all that there is to print is the version
 abbrev pub is_version : Kinds → Bool
 is_version (DisplayVersion ∷ []) = true
 is_version _ = false

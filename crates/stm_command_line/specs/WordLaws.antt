@@ -8,7 +8,7 @@ use Rattle.stm_options.specs.declared.options.Options.{Options}
 use Rattle.stm_command_line.specs.CommandLine.{answers_of, asks_for_help, asks_for_run, asks_for_version, has_mistake, request_of, HasOptionsInRange}
 use Rattle.stm_options.specs.Options.{default_options}
 
--- of the program's name alone, and of the word `run` after it, there is nothing to tell, so they ask for a run
+-- of the program's name alone, and of the word `run` after it, there is nothing to report, so they ask for a run
 abbrev pub RunsAreAccepted : Type 0
 RunsAreAccepted = (words : List (List ℕ)) → IsTrue (asks_for_run words) → answers_of words ≡ []
 
@@ -25,12 +25,12 @@ RunsHaveDefaults = (words : List (List ℕ)) → IsTrue (asks_for_run words)
 abbrev pub OptionsAreInRange : Type 0
 OptionsAreInRange = (words : List (List ℕ)) → HasOptionsInRange (request_of words)
 
--- `storm` alone after the program's name asks for a storm with the default options, and there is nothing to tell of it
+-- `storm` alone after the program's name asks for a storm with the default options, and there is nothing to report of it
 abbrev pub StormsAreAccepted : Type 0
 StormsAreAccepted = (name : List ℕ)
     → (answers_of (name ∷ codes "storm" ∷ []) ≡ []) × (request_of (name ∷ codes "storm" ∷ []) ≡ Storm default_options)
 
--- there is nothing to tell of the words, and they ask for a run with these options
+-- there is nothing to report of the words, and they ask for a run with these options
 abbrev pub IsTaken : List (List ℕ) → Options → Type 0
 IsTaken words options = (answers_of words ≡ []) × (request_of words ≡ Run options)
 
@@ -51,7 +51,7 @@ StormsHaveNoJournal = (name : List ℕ) (rest : List (List ℕ)) (options : Opti
     → answers_of (name ∷ codes "run" ∷ rest) ≡ [] → request_of (name ∷ codes "run" ∷ rest) ≡ RunOn options sync file
     → IsTrue (has_mistake (name ∷ codes "storm" ∷ rest))
 
--- `check` after the program's name asks for a check, and there is nothing to tell of it
+-- `check` after the program's name asks for a check, and there is nothing to report of it
 abbrev pub ChecksAreAccepted : Type 0
 ChecksAreAccepted =
     (name : List ℕ) → (answers_of (name ∷ codes "check" ∷ []) ≡ []) × (request_of (name ∷ codes "check" ∷ []) ≡ Check)
@@ -113,7 +113,7 @@ OptionsNeedRun = (name : List ℕ) (rest : List (List ℕ))
 
 -- ---- journals
 
--- there is nothing to tell of the words, and they ask for a run on this file with the default options, which is synced so
+-- there is nothing to report of the words, and they ask for a run on this file with the default options, which is synced so
 abbrev pub IsTakenOn : List (List ℕ) → SyncMode → List ℕ → Type 0
 IsTakenOn words sync file = (answers_of words ≡ []) × (request_of words ≡ RunOn default_options sync file)
 

@@ -441,7 +441,7 @@ fn bare_command<'a>(alloc: Global) -> Command<'a>
         .after_help(NEXT)
 }
 
-/// The same with `run`, which is the default.
+/// The program with its version and `run`, which is the default.
 fn command_of_run<'a>(alloc: Global) -> Result<Command<'a>, AllocError>
     ensures { IfOk result (λ c. app_of c
         ≡ with_subcommand (with_version (new_app (codes "stmdesk"))) run_command.top) }
@@ -450,7 +450,7 @@ fn command_of_run<'a>(alloc: Global) -> Result<Command<'a>, AllocError>
     bare_command(alloc).subcommand(run)
 }
 
-/// The same with `storm`, which takes the options of a run too.
+/// The program with its version, `run` and `storm`, which takes the options of a run too.
 fn command_of_runs<'a>(alloc: Global) -> Result<Command<'a>, AllocError>
     ensures { IfOk result (λ c. app_of c
         ≡ with_subcommand
@@ -461,7 +461,7 @@ fn command_of_runs<'a>(alloc: Global) -> Result<Command<'a>, AllocError>
     command_of_run(alloc)?.subcommand(storm)
 }
 
-/// The same with `explore`.
+/// The program with its version, `run`, `storm` and `explore`.
 fn command_of_scripts<'a>(alloc: Global) -> Result<Command<'a>, AllocError>
     ensures { IfOk result (λ c. app_of c
         ≡ with_subcommand (with_subcommand
@@ -698,7 +698,7 @@ fn usage_error(
     command.error(kind, message)
 }
 
-/// The same, or that memory ran out.
+/// An error in the words after `run` or `storm`, or that memory ran out.
 fn refusal(alloc: Global, is_storm: bool, kind: ErrorKind, message: &str) -> Error
     ensures { HasKind (kind ∷ []) result }
 {
