@@ -255,7 +255,7 @@ said_in_range rows = record {
   few_between = (within 1 1048576 500000 (number (codes "checkpoint-every") rows) (omega arith) (omega arith)).1;
 }
 
-default_in_range : AreRunOptions default_options
+pub default_in_range : AreRunOptions default_options
 default_in_range = record {
   some_worker = omega arith;
   few_workers = omega arith;

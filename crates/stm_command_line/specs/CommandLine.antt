@@ -1,14 +1,15 @@
 -- What the words of a command line ask for. The first is the program's name.
-use Rattle.std.specs.Prelude.{ℕ, Bool, true, false, not, List, [], ◌∷◌, ◌++◌, ◌&&◌, ◌||◌, Option, Some, None, is_some, if◌then◌else◌, codes, nat_le, option_and_then, unwrap_or, ◌≤◌, ⊤, pos}
+use Rattle.std.specs.Prelude.{ℕ, Bool, true, false, not, List, [], ◌∷◌, ◌++◌, ◌&&◌, ◌||◌, ◌≡◌, Option, Some, None, Result, Ok, Err, is_some, if◌then◌else◌, codes, nat_le, option_and_then, unwrap_or, ◌≤◌, ⊤, pos}
 use Rattle.std.specs.List.{list_all}
 use Rattle.std.specs.Str.{bytes_eq}
 use Rattle.std.specs.Str.Parse.{digits_value, without_leading_plus}
 use Rattle.clap.specs.Walk.{Row, Rule, first_of, one_of}
 use Rattle.clap.specs.ValueTests.{is_unsigned_in}
 use Rattle.clap.specs.Kinds.{or_else}
-use Rattle.clap.specs.Words.{App, Kinds, fault_of, new_app, new_rule, subcommand_of, with_rule, with_subcommand}
+use Rattle.clap.specs.Words.{App, HasKind, Kinds, fault_of, new_app, new_rule, subcommand_of, with_rule, with_subcommand}
 use Rattle.clap.specs.declared.builder.action.ArgAction.TheVariants.{SetTrue}
 use Rattle.clap.specs.declared.builder.value_parser.ValueParser.TheVariants.{NonEmptyString, Signed}
+use Rattle.clap.specs.declared.error.Error.{Error}
 use Rattle.clap.specs.declared.error.kind.ErrorKind.{ErrorKind}
 use Rattle.clap.specs.declared.error.kind.ErrorKind.TheVariants.{DisplayHelp, DisplayVersion, InvalidValue, MissingRequiredArgument, UnknownArgument}
 use Rattle.stm_terms.specs.Limits.{max_levels, max_events, max_workers}
@@ -284,3 +285,10 @@ HasOptionsInRange (Storm options) = AreRunOptions options
 HasOptionsInRange (Explore options) = AreExploreOptions options
 HasOptionsInRange Check = ⊤
 HasOptionsInRange CheckWhy = ⊤
+
+-- what comes of reading words
+abbrev pub ReadsWords : List (List ℕ) → Result Request Error → Type 0
+-- clap prints nothing of them, and this is what they ask for, with its options in their ranges
+ReadsWords words (Ok request) = (answers_of words ≡ []) × (request ≡ request_of words) × HasOptionsInRange request
+-- clap prints one of these kinds of them, help, the version or what is wrong; or memory ran out
+ReadsWords words (Err e) = HasKind (answers_of words) e

@@ -6,7 +6,7 @@ ghost use Rattle.clap.specs.Values.{kind_of};
 ghost use Rattle.clap.specs.Walk.{first_of, one_of, rows_of, rule_of};
 ghost use Rattle.clap.specs.Words.{app_of, found_of, new_app, with_subcommand, FailsBy, HasKind};
 ghost use Rattle.clap.specs.declared.builder.command.Command.TheViews.{out-Command as fields_of};
-ghost use Rattle.stm_command_line.specs.CommandLine.{answers_of, asks_for_run, check_command, checkpoint_fault, checkpoint_option, check_said, command_line, explore_command, explore_options_said, flag_option, flag_said, is_said, journal_fault, journal_option, mode_of, mode_said, number_of_text, number_option, number_said, number_within, options_said, request_fault, request_of, request_said, run_command, run_fault, run_on, run_said, search_command, storm_command, storm_fault, sync_fault, sync_option, with_numbers, with_options, with_version, AreExploreOptions, HasOptionsInRange};
+ghost use Rattle.stm_command_line.specs.CommandLine.{asks_for_run, check_command, checkpoint_fault, checkpoint_option, check_said, command_line, explore_command, explore_options_said, flag_option, flag_said, is_said, journal_fault, journal_option, mode_of, mode_said, number_of_text, number_option, number_said, number_within, options_said, request_fault, request_said, run_command, run_fault, run_on, run_said, search_command, storm_command, storm_fault, sync_fault, sync_option, with_numbers, with_options, with_version, AreExploreOptions, HasOptionsInRange, ReadsWords};
 ghost use Rattle.stm_options.specs.Options.{AreRunOptions};
 
 use crate::file_name::FileName;
@@ -839,12 +839,12 @@ fn check_request(alloc: Global, matches: &ArgMatches) -> Result<(), Error>
     }
 }
 
-/// Reads the words, the program's name first: what they ask for, else the help, the version or the fault to be reported.
+/// Reads the words, the program's name first: what they ask for, else the help, the version or the error to be printed.
 pub fn read_words<'a, S: AsStr>(alloc: Global, words: &'a [S]) -> Result<Request<'a>, Error>
+    // The name alone, and `run` after it, are taken even if memory runs out.
     ensures run { IsTrue (asks_for_run (map S.text words.now)) → IsOk result }
-    ensures answers { FailsBy (answers_of (map S.text words.now)) result }
-    ensures request { IfOk result (λ r. r ≡ request_of (map S.text words.now)) }
-    ensures range { IfOk result (λ r. HasOptionsInRange r) }
+    // What the words ask for, or what clap prints of them.
+    ensures words { ReadsWords (map S.text words.now) result }
 {
     if is_plain_run(words) {
         return Ok(Request::Run(Options::standard()));
