@@ -271,16 +271,18 @@ pub storms_are_as_runs : StormsAreAsRuns
 storms_are_as_runs name rest =
     let k = run_kinds name rest in
     let run = run_answers name rest in
-    let storm = storm_answers name rest in (
-      ap is_help storm ∙ same_help k (journal rest) (sync rest) (every rest) ∙ sym (ap is_help run),
-      λ wrong. ap are_mistakes storm ∙ same_mistakes k (journal rest) (sync rest) (every rest) (sym (ap are_mistakes run) ∙ wrong),
-      λ options taken.
-          let both = taken_after_storm k (journal rest) (sync rest) (every rest) (mode_said (sync rest)) (options_said (rows rest)) options (sym run ∙ taken.0) (sym (run_said name rest) ∙ taken.1) in
-          (storm ∙ both.0, storm_said name rest ∙ both.1),
-      λ options none asks.
-          let both = taken_after_run k (journal rest) (sync rest) (every rest) (mode_said (sync rest)) (options_said (rows rest)) options (sym storm ∙ none) (sym (storm_said name rest) ∙ asks) in
-          (run ∙ both.0, run_said name rest ∙ both.1),
-    )
+    let storm = storm_answers name rest in record {
+      help = ap is_help storm ∙ same_help k (journal rest) (sync rest) (every rest) ∙ sym (ap is_help run);
+      wrong = λ h. ap are_mistakes storm ∙ same_mistakes k (journal rest) (sync rest) (every rest) (sym (ap are_mistakes run) ∙ h);
+      taken = λ options. (
+        λ h.
+            let both = taken_after_storm k (journal rest) (sync rest) (every rest) (mode_said (sync rest)) (options_said (rows rest)) options (sym run ∙ h.0) (sym (run_said name rest) ∙ h.1) in
+            (storm ∙ both.0, storm_said name rest ∙ both.1),
+        λ h.
+            let both = taken_after_run k (journal rest) (sync rest) (every rest) (mode_said (sync rest)) (options_said (rows rest)) options (sym storm ∙ h.0) (sym (storm_said name rest) ∙ h.1) in
+            (run ∙ both.0, run_said name rest ∙ both.1),
+      );
+    }
 
 pub storms_have_no_journal : StormsHaveNoJournal
 storms_have_no_journal name rest options mode file none asks =

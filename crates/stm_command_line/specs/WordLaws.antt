@@ -1,5 +1,5 @@
 -- Which words ask for a run, a run on a file, a storm, a check or the version, and what they say.
-use Rattle.std.specs.Prelude.{◌≡◌, ◌≢◌, ◌≤◌, ◌<◌, ◌^◌, ℕ, List, [], ◌∷◌, ◌++◌, codes, decimal, IsTrue}
+use Rattle.std.specs.Prelude.{◌≡◌, ◌≢◌, ◌↔◌, ◌≤◌, ◌<◌, ◌^◌, ℕ, List, [], ◌∷◌, ◌++◌, codes, decimal, IsTrue}
 use Rattle.stm_terms.specs.Limits as limits
 use Rattle.stm_command_line.specs.declared.command_line.Request.TheVariants.{Run, RunOn, Storm, Check, CheckWhy}
 use Rattle.stm_journal.specs.declared.sync_mode.SyncMode.{SyncMode}
@@ -25,31 +25,48 @@ RunsHaveDefaults = (words : List (List ℕ)) → IsTrue (asks_for_run words)
 abbrev pub OptionsAreInRange : Type 0
 OptionsAreInRange = (words : List (List ℕ)) → HasOptionsInRange (request_of words)
 
--- `storm` alone after the program's name asks for a storm with the default options, and there is nothing to report of it
-abbrev pub StormsAreAccepted : Type 0
-StormsAreAccepted = (name : List ℕ)
-    → (answers_of (name ∷ codes "storm" ∷ []) ≡ []) × (request_of (name ∷ codes "storm" ∷ []) ≡ Storm default_options)
+-- ---- storms
 
--- there is nothing to report of the words, and they ask for a run with these options
+-- these words after `run`
+abbrev pub run_words : List ℕ → List (List ℕ) → List (List ℕ)
+run_words name rest = name ∷ codes "run" ∷ rest
+
+-- these words after `storm`
+abbrev pub storm_words : List ℕ → List (List ℕ) → List (List ℕ)
+storm_words name rest = name ∷ codes "storm" ∷ rest
+
+-- there is nothing to report of the words, and they ask for a run without a journal, with these options
 abbrev pub IsTaken : List (List ℕ) → Options → Type 0
 IsTaken words options = (answers_of words ≡ []) × (request_of words ≡ Run options)
 
--- Any words after `storm` are taken as after `run`, with the same options, if these ask for a run without a journal; what asks for
--- help or is wrong after `run` is so after `storm`.
+-- there is nothing to report of the words, and they ask for a storm with these options
+abbrev pub IsTakenAsStorm : List (List ℕ) → Options → Type 0
+IsTakenAsStorm words options = (answers_of words ≡ []) × (request_of words ≡ Storm options)
+
+-- `storm` alone after the program's name asks for a storm with the default options
+abbrev pub StormsAreAccepted : Type 0
+StormsAreAccepted = (name : List ℕ) → IsTakenAsStorm (storm_words name []) default_options
+
+-- what words mean after `storm` is what they mean after `run`, except for a journal
+pub record StormIsAsRun (name : List ℕ) (rest : List (List ℕ)) : Type 0 where
+  -- they ask for help after both, or after neither
+  pub help : asks_for_help (storm_words name rest) ≡ asks_for_help (run_words name rest)
+  -- what is wrong after `run` is wrong after `storm`
+  pub wrong : IsTrue (has_mistake (run_words name rest)) → IsTrue (has_mistake (storm_words name rest))
+  -- they ask for a storm with some options if and only if after `run` they ask for a run without a journal, with the same options
+  pub taken : (options : Options) → IsTaken (run_words name rest) options ↔ IsTakenAsStorm (storm_words name rest) options
+
+-- whatever the words are
 abbrev pub StormsAreAsRuns : Type 0
-StormsAreAsRuns = (name : List ℕ) (rest : List (List ℕ))
-    → (asks_for_help (name ∷ codes "storm" ∷ rest) ≡ asks_for_help (name ∷ codes "run" ∷ rest))
-    × (IsTrue (has_mistake (name ∷ codes "run" ∷ rest)) → IsTrue (has_mistake (name ∷ codes "storm" ∷ rest)))
-    × ((options : Options) → IsTaken (name ∷ codes "run" ∷ rest) options
-    → (answers_of (name ∷ codes "storm" ∷ rest) ≡ []) × (request_of (name ∷ codes "storm" ∷ rest) ≡ Storm options))
-    × ((options : Options) → answers_of (name ∷ codes "storm" ∷ rest) ≡ []
-    → request_of (name ∷ codes "storm" ∷ rest) ≡ Storm options → IsTaken (name ∷ codes "run" ∷ rest) options)
+StormsAreAsRuns = (name : List ℕ) (rest : List (List ℕ)) → StormIsAsRun name rest
 
 -- a storm has no journal: words that ask for one after `run` are refused after `storm`
 abbrev pub StormsHaveNoJournal : Type 0
 StormsHaveNoJournal = (name : List ℕ) (rest : List (List ℕ)) (options : Options) (sync : SyncMode) (file : List ℕ)
-    → answers_of (name ∷ codes "run" ∷ rest) ≡ [] → request_of (name ∷ codes "run" ∷ rest) ≡ RunOn options sync file
-    → IsTrue (has_mistake (name ∷ codes "storm" ∷ rest))
+    → answers_of (run_words name rest) ≡ [] → request_of (run_words name rest) ≡ RunOn options sync file
+    → IsTrue (has_mistake (storm_words name rest))
+
+-- ---- checks and the version
 
 -- `check` after the program's name asks for a check, and there is nothing to report of it
 abbrev pub ChecksAreAccepted : Type 0
