@@ -30,14 +30,15 @@ pub fn versions_are_asked_for()
     ensures { VersionsAreAskedFor }
 {}
 
-/// `run` with `--workers=N`, `--levels=N` or `--max-events=N` runs with this number if it is in the option's range, and
-/// is refused if it isn't.
+/// `run` with `--workers=N`, `--levels=N` or `--max-events=N` runs with this number if it is in the option's range; any other
+/// number of 64 bits is refused.
 pub fn numbers_in_range_are_taken()
     ensures taken { NumbersAreTaken }
     ensures others { OthersAreRefused }
 {}
 
-/// An option twice is refused, and so is one without `run`.
+/// `run` with the same option twice is refused, whatever its two values are, and so is an option that comes first, without
+/// `run`.
 pub fn options_stand_once_after_run()
     ensures once { NoOptionTwice }
     ensures after { OptionsNeedRun }
@@ -53,8 +54,8 @@ pub fn journals_are_taken()
     ensures alone { ModesNeedJournals }
 {}
 
-/// With `--journal`, `--checkpoint-every` is taken with a number in its range, and refused with another one; without `--journal` it is
-/// refused.
+/// With `--journal`, `--checkpoint-every` is taken with a number in its range, and any other number of 64 bits is refused; without
+/// `--journal` it is refused.
 pub fn checkpoints_need_journals()
     ensures taken { CheckpointsAreTaken }
     ensures others { OtherCheckpointsAreRefused }
