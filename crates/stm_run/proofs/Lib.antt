@@ -19,3 +19,4 @@ pub mod SoundStates
 pub mod StandingDesk
 pub mod TextsJudged
 pub mod TypedTable
+pub mod WrittenRuns

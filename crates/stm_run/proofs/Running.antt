@@ -1,5 +1,5 @@
 -- What a run has written, from what it has taken.
-use Rattle.std.proofs.Common.{◌≡◌, ℕ, ◌<◌, Result, Ok, Err, OnErr, Option, Some, None, IfSome, List, [], ◌∷◌, ◌++◌, length, refl, sym, ap, ◌∙◌, subst, append_assoc, append-nil}
+use Rattle.std.proofs.Common.{◌≡◌, ℕ, ◌<◌, Result, Ok, Err, OnErr, Option, Some, None, List, [], ◌∷◌, ◌++◌, length, refl, sym, ap, ◌∙◌, subst, append_assoc, append-nil}
 use Rattle.std.specs.Io.KnownBytes.{Appends, Keeps, prepend_known}
 use Rattle.std.proofs.KnownBytes.{Appends-nil, Appends-trans, Appends-kept, Consumes-trans}
 use Rattle.stm_lines.specs.LineClass.{line_class}
@@ -9,7 +9,7 @@ use Rattle.stm_run.proofs.InputInParts.{Continues-line, Continues-trans, rest_te
 use Rattle.stm_terms.specs.Texts.{IsPrefixOf}
 use Rattle.stm_run.specs.Streaming.{RunState, HasAnswered, HasAnsweredAll, HasAnsweredPart, HasAnsweredWhole, rest_text}
 use Rattle.stm_run.specs.declared.console.Console.{Console}
-use Rattle.stm_run.specs.Console.{answer_to, state_after, initial_console, console_text}
+use Rattle.stm_run.specs.Console.{answer_to, state_after}
 
 -- a run with this console, rest of its input and written text
 abbrev pub run_at : Console → Option (List ℕ) → Option (List ℕ) → RunState
@@ -128,12 +128,3 @@ whole_answered s t (Some i) (Some rest) r x y y' z h f k = (
   k.3,
   subst (Appends x z) (sym (h.continues.whole k.0)) (Appends-trans x y' z _ _ (Appends-kept x y y' _ h.appended f) k.4),
 )
-
--- the text of what follows the beginning is the console's
-pub part_from_start : {E : Type 0} → (r : Result (Unit {0}) E) (a b x y : Option (List ℕ)) (m : ℕ) (s : Console) → a ≡ b → s ≡ initial_console m
-    → OnErr r (HasAnsweredPart (run_at s a x) y)
-    → OnErr r (IfSome b (λ input. (front : List ℕ) × IsPrefixOf front (console_text m input) × Appends x y front))
-unfolding console_text rest_text
-part_from_start r a b x y m s p e h =
-    subst (λ (c : Option (List ℕ)). OnErr r (IfSome c (λ input. (front : List ℕ) × IsPrefixOf front (rest_text (initial_console m) input) × Appends x y front))) p
-    (subst (λ (t : Console). OnErr r (IfSome a (λ input. (front : List ℕ) × IsPrefixOf front (rest_text t input) × Appends x y front))) e h)

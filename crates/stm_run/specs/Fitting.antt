@@ -19,10 +19,10 @@ use Rattle.stm_history_text.specs.Starts.{BlocksAreOfText}
 use Rattle.stm_source.specs.CompiledBlock.{compiled_block}
 use Rattle.stm_desk.specs.DeskView.{DeskView, start_state, state_of}
 use Rattle.stm_source.specs.DeclaredVariable.{late_variable_of}
-use Rattle.stm_run.specs.Console.{initial_console, state_after}
+use Rattle.stm_run.specs.Console.{state_after}
 use Rattle.stm_run.specs.ConsoleState.{present_desk, table_of, checkpoint_of_console, with_checkpoint}
 use Rattle.stm_run.specs.declared.console.Console.{Console}
-use Rattle.stm_run.specs.AfterLines.{state_after_lines}
+use Rattle.stm_run.specs.AfterLines.{console_reached, state_after_lines}
 
 -- ---- what they are of
 -- over the names, a block that is submitted is what its text checks to, and a variable is the one that some text declares; and a block
@@ -49,7 +49,7 @@ IsOfConsole d = AreOfConsole (start_state d) d.history × IfSome d.checkpoint Bl
 abbrev pub EventsAreOfConsole : Type 0
 EventsAreOfConsole =
     (max_events : ℕ) (before : List (List ℕ))
-    → IsOfConsole (present_desk (state_after_lines (initial_console max_events) before)).desk
+    → IsOfConsole (present_desk (console_reached max_events before)).desk
 
 -- each waiting block is what its text checks to over the names
 abbrev pub AreOfTheirTexts : List Named → List slow.Waiter → Type 0
@@ -97,7 +97,7 @@ HaveSmallNumbers (e ∷ es) = AreNumbersSmall e.what × HaveSmallNumbers es
 abbrev pub NumbersAreSmall : Type 0
 NumbersAreSmall =
     (max_events : ℕ) → max_events ≤ limits.max_events → (before : List (List ℕ))
-    → HaveSmallNumbers (present_desk (state_after_lines (initial_console max_events) before)).desk.history
+    → HaveSmallNumbers (present_desk (console_reached max_events before)).desk.history
 
 -- ---- their values
 -- the numbers and values of each verdict are in range
@@ -123,7 +123,7 @@ VariablesFit table = (length table ≤ slow.max_cells) × AreVariables table
 abbrev pub VariablesFitLines : Type 0
 VariablesFitLines =
     (max_events : ℕ) (before : List (List ℕ))
-    → VariablesFit (present_desk (state_after_lines (initial_console max_events) before)).desk.table
+    → VariablesFit (present_desk (console_reached max_events before)).desk.table
 
 -- variables that can be in lines stay so with those that are declared later
 abbrev pub VariablesStayFit : Type 0

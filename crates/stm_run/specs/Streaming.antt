@@ -1,8 +1,8 @@
 -- What a run keeps while it takes its input line by line.
 use Rattle.std.specs.Prelude.{◌≡◌, ℕ, Bool, List, ◌++◌, Option, Some, IfSome, MatchBool}
 use Rattle.std.specs.Io.KnownBytes.{Appends, Consumes}
-use Rattle.stm_terms.specs.Texts.{IsPrefixOf}
 use Rattle.stm_lines.specs.Lines.{lines_of, whole_lines_of}
+use Rattle.stm_lines.specs.WrittenFronts.{WritesFront}
 use Rattle.stm_run.specs.declared.console.Console.{Console}
 use Rattle.stm_run.specs.declared.session.Session.{Session}
 use Rattle.stm_run.specs.Console.{answers_to}
@@ -51,8 +51,7 @@ HasAnsweredNext earlier later more = MatchBool more (HasAnswered earlier later) 
 -- a front of the text was written
 abbrev pub HasAnsweredPart : RunState → Option (List ℕ) → Type 0
 HasAnsweredPart earlier written =
-    IfSome earlier.rest (λ input. (front : List ℕ) × IsPrefixOf front (rest_text earlier.console input)
-    × Appends earlier.written written front)
+    IfSome earlier.rest (λ input. WritesFront earlier.written written (rest_text earlier.console input))
 
 -- the text of the lines that were whole in what was taken was written, and this is left
 abbrev pub HasAnsweredWhole : RunState → Option (List ℕ) → Option (List ℕ) → Type 0

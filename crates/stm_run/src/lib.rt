@@ -6,8 +6,8 @@
 //! are, and that their numbers are small; so they can be in lines of a history, which is in `stm_run_laws` with what holds of the text.
 //!
 //! What a reader has to believe is in these modules of specs/: `Console` has the step of a line and what is written for an
-//! input, over `ConsoleState`, what is known between two lines, and `AfterLines`; `Declaring` has the step of `tvar` (those of the
-//! other commands are in `stm_commands`).
+//! input, over `ConsoleState`, what is known between two lines, and `AfterLines`; `WrittenRun` says what a run and a line of it have
+//! written, by the result; `Declaring` has the step of `tvar` (those of the other commands are in `stm_commands`).
 #![tactic(auto)]
 
 pub mod command;

@@ -2,10 +2,11 @@
 
 ghost use Rattle.std.specs.Prelude.{◌≡◌, ◌≢◌, ℕ, List, [], string_bytes, OnOk, OnErr, IfErr};
 ghost use Rattle.std.specs.Io.KnownBytes.{Appends};
-ghost use Rattle.stm_terms.specs.Texts.{IsPrefixOf};
+ghost use Rattle.stm_lines.specs.WrittenFronts.{WritesFront};
 ghost use Rattle.stm_run.specs.declared.console.Console.{Console as AnyConsole};
 ghost use Rattle.stm_run.specs.Abstraction.{IsStep, reply_text};
-ghost use Rattle.stm_run.specs.Console.{initial_console, answer_to, state_after};
+ghost use Rattle.stm_run.specs.Console.{initial_console};
+ghost use Rattle.stm_run.specs.WrittenRun.{WritesAnswer};
 
 use crate::console::Console;
 use crate::limit::EventLimit;
@@ -66,9 +67,8 @@ impl Session {
     fn write_answer<W: Write>(&self, writer: &mut W) -> Result<(), RunFault>
         ensures done { OnOk result (Appends (W.contents writer.old) (W.contents writer.new)
             (string_bytes self.now.answer)) }
-        ensures part { OnErr result ((front : List ℕ)
-            × IsPrefixOf front (string_bytes self.now.answer)
-            × Appends (W.contents writer.old) (W.contents writer.new) front) }
+        ensures part { OnErr result (WritesFront (W.contents writer.old) (W.contents writer.new)
+            (string_bytes self.now.answer)) }
         ensures fault { IfErr result (λ e. e ≢ RunFault.Read) }
     {
         write_text(writer, self.answer.as_bytes())
@@ -83,9 +83,8 @@ impl Session {
     ) -> Result<(), RunFault>
         ensures done { OnOk result (Appends (W.contents writer.old) (W.contents writer.new)
             (reply_text reply self.now.console (string_bytes self.now.answer))) }
-        ensures part { OnErr result ((front : List ℕ)
-            × IsPrefixOf front (reply_text reply self.now.console (string_bytes self.now.answer))
-            × Appends (W.contents writer.old) (W.contents writer.new) front) }
+        ensures part { OnErr result (WritesFront (W.contents writer.old) (W.contents writer.new)
+            (reply_text reply self.now.console (string_bytes self.now.answer))) }
         ensures fault { IfErr result (λ e. e ≢ RunFault.Read) }
     {
         match reply {
@@ -114,7 +113,7 @@ impl Session {
         ensures state { OnOk result ((s : AnyConsole × List ℕ) → IsStep reply [] (string_bytes self.old.answer) self.old.console s
             → self.new.console ≡ s.0) }
         ensures part { OnErr result ((s : AnyConsole × List ℕ) → IsStep reply [] (string_bytes self.old.answer) self.old.console s
-            → (front : List ℕ) × IsPrefixOf front s.1 × Appends (W.contents writer.old) (W.contents writer.new) front) }
+            → WritesFront (W.contents writer.old) (W.contents writer.new) s.1) }
         ensures fault { IfErr result (λ e. e ≢ RunFault.Read) }
     {
         if let Reply::Checkpoint = reply {
@@ -133,13 +132,9 @@ impl Session {
         line: &[u8],
         writer: &mut W,
     ) -> Result<(), RunFault>
-        ensures done { OnOk result (Appends (W.contents writer.old) (W.contents writer.new)
-            (answer_to self.old.console line.now)) }
-        ensures state { OnOk result (self.new.console ≡ state_after self.old.console line.now) }
-        ensures part { OnErr result ((front : List ℕ)
-            × IsPrefixOf front (answer_to self.old.console line.now)
-            × Appends (W.contents writer.old) (W.contents writer.new) front) }
-        ensures fault { IfErr result (λ e. e ≢ RunFault.Read) }
+        // By the result: the answer to the line was written, or a part of it.
+        ensures { WritesAnswer self.old.console line.now self.new.console
+            (W.contents writer.old) (W.contents writer.new) result }
     {
         self.answer.clear();
         match self
@@ -158,13 +153,9 @@ impl Session {
         line: &[u8],
         writer: &mut W,
     ) -> Result<(), RunFault>
-        ensures done { OnOk result (Appends (W.contents writer.old) (W.contents writer.new)
-            (answer_to self.old.console line.now)) }
-        ensures state { OnOk result (self.new.console ≡ state_after self.old.console line.now) }
-        ensures part { OnErr result ((front : List ℕ)
-            × IsPrefixOf front (answer_to self.old.console line.now)
-            × Appends (W.contents writer.old) (W.contents writer.new) front) }
-        ensures fault { IfErr result (λ e. e ≢ RunFault.Read) }
+        // By the result: the answer to the line was written, or a part of it.
+        ensures { WritesAnswer self.old.console line.now self.new.console
+            (W.contents writer.old) (W.contents writer.new) result }
     {
         self.answer.clear();
         // With this room the answer to a line that changes the desk is not refused once the line is done, unless it is long.

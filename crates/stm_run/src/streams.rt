@@ -1,11 +1,10 @@
 //! From the bytes of a reader to the bytes of a writer.
 
-ghost use Rattle.std.specs.Prelude.{◌≡◌, ◌≢◌, ◌+◌, ◌<◌, ◌≤◌, [], ◌++◌, true, ℕ, List, IfErr, IfOk, Ok, OnOk, OnErr, IfSome, IsErrOf, Some};
-ghost use Rattle.std.specs.Io.KnownBytes.{Appends, Keeps};
-ghost use Rattle.stm_terms.specs.Texts.{IsPrefixOf};
-ghost use Rattle.stm_run.specs.Console.{console_text, whole_lines_text};
+ghost use Rattle.std.specs.Prelude.{◌≡◌, ◌≢◌, ◌+◌, ◌<◌, ◌≤◌, [], true, IfErr, IfOk, Ok, OnOk, OnErr, IsErrOf};
+ghost use Rattle.std.specs.Io.KnownBytes.{Keeps};
 ghost use Rattle.stm_options.specs.Options.{AreRunOptions};
 ghost use Rattle.stm_run.specs.Streaming.{HasAnsweredAll, HasAnsweredNext, HasAnsweredPart, HasAnsweredWhole, run_state};
+ghost use Rattle.stm_run.specs.WrittenRun.{WritesRun};
 ghost use Rattle.stm_lines.specs.TakenLines.{bytes_to_come};
 ghost use Rattle.stm_lines.specs.Unread.{unread};
 
@@ -113,7 +112,6 @@ fn run_session<T: Threads + Sync, R: Read, W: Write, L: Ledger>(
 }
 
 /// Does what `run` does, and counts the calls of the reader: each call is one step, and the reader is called in no other place.
-#[tactic(auto, unfolding(crate::specs::Console::console_text, crate::specs::Console::whole_lines_text, crate::specs::Streaming::rest_text, crate::specs::Streaming::whole_rest_text))]
 pub fn run_counted<T: Threads + RandomSource + Sync, R: Read, W: Write, L: Ledger>(
     rt: &T,
     alloc: Global,
@@ -125,19 +123,9 @@ pub fn run_counted<T: Threads + RandomSource + Sync, R: Read, W: Write, L: Ledge
     requires { AreRunOptions options }
     // The reader was called 4,294,967,295 times at most.
     ensures few { steps.new ≤ steps.old + 4294967295 }
-    // The whole text of the input was written.
-    ensures answered { OnOk result (IfSome (R.remaining reader.old) (λ input.
-        Appends (W.contents writer.old) (W.contents writer.new)
-        (console_text options.max_events input))) }
-    // After a read fault it is the text of the lines that were whole before.
-    ensures read_fault { IsErrOf result RunFault.Read → IfSome (R.remaining reader.old) (λ input.
-        (taken rest : List ℕ) × (input ≡ taken ++ rest) × (R.remaining reader.new ≡ Some rest)
-        × Appends (W.contents writer.old) (W.contents writer.new)
-        (whole_lines_text options.max_events taken)) }
-    // After any fault it is a prefix of the text.
-    ensures part { OnErr result (IfSome (R.remaining reader.old) (λ input.
-        (front : List ℕ) × IsPrefixOf front (console_text options.max_events input)
-        × Appends (W.contents writer.old) (W.contents writer.new) front)) }
+    // By the result: the whole text of the input was written, or a part of it.
+    ensures written { WritesRun options.max_events (R.remaining reader.old) (R.remaining reader.new)
+        (W.contents writer.old) (W.contents writer.new) result }
 {
     let mut session = Session::new(
         alloc,
@@ -163,19 +151,9 @@ fn run_from<T: Threads + RandomSource + Sync, R: Read, W: Write, L: Ledger>(
     requires name { blank.name ≡ L.name }
     requires parts { blank.parts ≡ L.parts }
     requires some { 0 < blank.parts }
-    // The whole text of the input was written.
-    ensures answered { OnOk result (IfSome (R.remaining reader.old) (λ input.
-        Appends (W.contents writer.old) (W.contents writer.new)
-        (console_text options.max_events input))) }
-    // After a read fault it is the text of the lines that were whole before.
-    ensures read_fault { IsErrOf result RunFault.Read → IfSome (R.remaining reader.old) (λ input.
-        (taken rest : List ℕ) × (input ≡ taken ++ rest) × (R.remaining reader.new ≡ Some rest)
-        × Appends (W.contents writer.old) (W.contents writer.new)
-        (whole_lines_text options.max_events taken)) }
-    // After any fault it is a prefix of the text.
-    ensures part { OnErr result (IfSome (R.remaining reader.old) (λ input.
-        (front : List ℕ) × IsPrefixOf front (console_text options.max_events input)
-        × Appends (W.contents writer.old) (W.contents writer.new) front)) }
+    // By the result: the whole text of the input was written, or a part of it.
+    ensures { WritesRun options.max_events (R.remaining reader.old) (R.remaining reader.new)
+        (W.contents writer.old) (W.contents writer.new) result }
 {
     let mut steps = Steps::<L>::new(blank);
     run_counted(rt, alloc, reader, writer, options, &mut steps)
@@ -194,19 +172,9 @@ pub fn run<T: Threads + RandomSource + Sync, R: Read, W: Write>(
     options: Options,
 ) -> Result<(), RunFault>
     requires { AreRunOptions options }
-    // The whole text of the input was written.
-    ensures answered { OnOk result (IfSome (R.remaining reader.old) (λ input.
-        Appends (W.contents writer.old) (W.contents writer.new)
-        (console_text options.max_events input))) }
-    // After a read fault it is the text of the lines that were whole before.
-    ensures read_fault { IsErrOf result RunFault.Read → IfSome (R.remaining reader.old) (λ input.
-        (taken rest : List ℕ) × (input ≡ taken ++ rest) × (R.remaining reader.new ≡ Some rest)
-        × Appends (W.contents writer.old) (W.contents writer.new)
-        (whole_lines_text options.max_events taken)) }
-    // After any fault it is a prefix of the text.
-    ensures part { OnErr result (IfSome (R.remaining reader.old) (λ input.
-        (front : List ℕ) × IsPrefixOf front (console_text options.max_events input)
-        × Appends (W.contents writer.old) (W.contents writer.new) front)) }
+    // By the result: the whole text of the input was written, or a part of it.
+    ensures { WritesRun options.max_events (R.remaining reader.old) (R.remaining reader.new)
+        (W.contents writer.old) (W.contents writer.new) result }
 {
     run_from::<T, R, W, Brand>(rt, alloc, reader, writer, options, Blank::new(1))
 }

@@ -1,8 +1,10 @@
-use Rattle.std.proofs.Common.{ap, ◌∙◌}
+use Rattle.std.proofs.Common.{ap, ◌∙◌, rules}
 use Rattle.stm_run.specs.Console.{initial_console}
-use Rattle.stm_run.proofs.Running.{part_from_start}
+use Rattle.stm_run.proofs.WrittenRuns.{run_written}
 use Rattle.stm_run.proofs.streams.run_counted.Goals as goal
 
-pub returns-clause-part : goal.returns-clause-part
-returns-clause-part g c =
-    part_from_start c.run_session.result _ _ _ _ c.args.options.max_events c.new-session.result.console (ap g.R.Read.remaining c.new-calls.ensures.reader) (c.new-session.ensures ∙ ap initial_console c.new.ensures) c.run_session.ensures.part
+pub returns-clause-written : goal.returns-clause-written
+returns-clause-written g c =
+    let did = c.run_session.ensures in
+    let written = run_written c.run_session.result _ _ _ _ _ c.args.options.max_events c.new-session.result.console (ap g.R.Read.remaining c.new-calls.ensures.reader) (c.new-session.ensures ∙ ap initial_console c.new.ensures) did.answered did.read_fault did.part in
+    search (rules, written)
