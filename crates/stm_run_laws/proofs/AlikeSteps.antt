@@ -63,7 +63,7 @@ use Rattle.stm_commands.specs.Jobs.{jobs_of, delivery_first, delivery_refusal, i
 use Rattle.stm_commands.specs.Labelling.{label_ticket_step}
 use Rattle.stm_commands.specs.OpenDesk.{HandedOut}
 use Rattle.stm_commands.specs.Refusals.{refused}
-use Rattle.stm_run_laws.specs.Unseen.{TellsFull}
+use Rattle.stm_run_laws.specs.Unseen.{SaysFull}
 use Rattle.stm_run.proofs.RunAtOnce.{EachTyped, run_allowed, run_typed}
 use Rattle.stm_run.proofs.DeliveredJobs.{next_stands, queued_stand}
 use Rattle.stm_run.proofs.DeskMoves.{submitted_stands, declared_stands, finished_stands, cancelled_stands, labelled_stands}
@@ -80,7 +80,7 @@ pub record AlikeSteps (b : Bool) (p p' : DeskView × List ℕ) : Type 0 where
 
 -- neither answer reports that its history is full, if the second is not known to be no longer
 abbrev pub NotFull : Bool → List ℕ → List ℕ → Type 0
-NotFull b x x' = ¬ TellsFull x × (b ≡ false → ¬ TellsFull x')
+NotFull b x x' = ¬ SaysFull x × (b ≡ false → ¬ SaysFull x')
 
 -- ---- submit
 submit_either : (m : Option ℕ) (many : Bool) → (submit_first m many true ≡ submit_first m many false) ⊎ (submit_first m many true ≡ Some submit.HistoryFull)
@@ -88,7 +88,7 @@ submit_either (Some i) many = inl refl
 submit_either None true = inl refl
 submit_either None false = inr refl
 
-submit_full : (d : DeskView) (block : Block) (o : Option SubmitError) → o ≡ Some submit.HistoryFull → TellsFull (submit_block_step d block o).1
+submit_full : (d : DeskView) (block : Block) (o : Option SubmitError) → o ≡ Some submit.HistoryFull → SaysFull (submit_block_step d block o).1
 submit_full d block o e = inl (ap (λ (x : Option SubmitError). (submit_block_step d block x).1) e)
 
 submit_same : (b : Bool) (d d' : DeskView) (block : Block) → AlikeDesks b d d' → NotFull b (submit_block_step d block (submit_refusal d block)).1 (submit_block_step d' block (submit_refusal d' block)).1
@@ -123,7 +123,7 @@ declare_either true holds room = inl refl
 declare_either false false room = inl refl
 declare_either false true room = inr refl
 
-declare_full : (d : DeskView) (v : Declared) (o : Option LateDeclareError) → o ≡ Some late.HistoryFull → TellsFull (declare_variable_step d v o).1
+declare_full : (d : DeskView) (v : Declared) (o : Option LateDeclareError) → o ≡ Some late.HistoryFull → SaysFull (declare_variable_step d v o).1
 declare_full d v o e = inl (ap (λ (x : Option LateDeclareError). (declare_variable_step d v x).1) e)
 
 abbrev refused_as : DeskView → Declared → Option LateDeclareError
@@ -159,7 +159,7 @@ cancel_either : (o : Option Waiter) → (cancel_first o true ≡ cancel_first o 
 cancel_either None = inl refl
 cancel_either (Some w) = inr refl
 
-cancel_full : (d : DeskView) (t : ℕ) (o : Option CancelError) → o ≡ Some cancel.HistoryFull → TellsFull (cancel_ticket_step d t o).1
+cancel_full : (d : DeskView) (t : ℕ) (o : Option CancelError) → o ≡ Some cancel.HistoryFull → SaysFull (cancel_ticket_step d t o).1
 cancel_full d t o e = inl (ap (λ (x : Option CancelError). (cancel_ticket_step d t x).1) e)
 
 cancel_same : (b : Bool) (d d' : DeskView) (t : ℕ) → AlikeDesks b d d' → NotFull b (cancel_ticket_step d t (cancel_refusal d t)).1 (cancel_ticket_step d' t (cancel_refusal d' t)).1 → cancel_refusal d t ≡ cancel_refusal d' t
@@ -184,7 +184,7 @@ label_either : (o : Option Waiter) → (label_first o true ≡ label_first o fal
 label_either None = inl refl
 label_either (Some w) = inr refl
 
-label_full : (d : DeskView) (t : ℕ) (text : List ℕ) (o : Option LabelError) → o ≡ Some label.HistoryFull → TellsFull (label_ticket_step d t text o).1
+label_full : (d : DeskView) (t : ℕ) (text : List ℕ) (o : Option LabelError) → o ≡ Some label.HistoryFull → SaysFull (label_ticket_step d t text o).1
 label_full d t text o e = inl (ap (λ (x : Option LabelError). (label_ticket_step d t text x).1) e)
 
 label_same : (b : Bool) (d d' : DeskView) (t : ℕ) (text : List ℕ) → AlikeDesks b d d' → NotFull b (label_ticket_step d t text (label_refusal d t)).1 (label_ticket_step d' t text (label_refusal d' t)).1
@@ -225,7 +225,7 @@ finish_either : (store : List Cell) (o : Option Waiter) → (finish_first store 
 finish_either store None = inl refl
 finish_either store (Some w) = tests_either (is_new w) (is_current w) (blocks_there (verdict_on store w.block)) (overflows store (verdict_on store w.block))
 
-finish_full : (d : DeskView) (t : ℕ) (o : Option FinishError) → o ≡ Some finish.HistoryFull → TellsFull (finish_ticket_step d t o).1
+finish_full : (d : DeskView) (t : ℕ) (o : Option FinishError) → o ≡ Some finish.HistoryFull → SaysFull (finish_ticket_step d t o).1
 finish_full d t o e = inl (ap (λ (x : Option FinishError). (finish_ticket_step d t x).1) e)
 
 finish_same : (b : Bool) (d d' : DeskView) (t : ℕ) → AlikeDesks b d d' → NotFull b (finish_ticket_step d t (finish_refusal d t)).1 (finish_ticket_step d' t (finish_refusal d' t)).1 → finish_refusal d t ≡ finish_refusal d' t
@@ -341,7 +341,7 @@ deliver_by : (b : Bool) (d d' : DeskView) (jobs : List HandedOut) (j : HandedOut
 deliver_by b d d' jobs j (Some e) st k = record { desks = left_alike b d d' e j.ticket k; text = refl }
 deliver_by b d d' jobs j None st k = record { desks = installed_alike b d d' jobs j.ticket (verdict (cell_value j.store) j.block.tree) st k; text = refl }
 
-deliver_full : (d : DeskView) (j : HandedOut) (o : Option DeliverError) → o ≡ Some deliver.HistoryFull → TellsFull (delivery_step d j o).1
+deliver_full : (d : DeskView) (j : HandedOut) (o : Option DeliverError) → o ≡ Some deliver.HistoryFull → SaysFull (delivery_step d j o).1
 deliver_full d j o e = inl (ap (λ (x : Option DeliverError). (delivery_step d j x).1) e)
 
 pub deliver_alike : (b : Bool) (d d' : DeskView) (jobs : List HandedOut) (o : Option HandedOut) → Stands (deliver_job_step d o).0 jobs → AlikeDesks b d d' → NotFull b (deliver_job_step d o).1 (deliver_job_step d' o).1
@@ -498,7 +498,7 @@ whats_alike b (x ∷ xs) d d' l k =
 fewer_room : (l m n : ℕ) → m ≤ n → l - n ≤ l - m
 fewer_room l m n h = omega arith
 
-run_full : (line : ℕ → ℕ → List ℕ) (whats : List What) (o : Option Stop) → o ≡ Some NoRoom → TellsFull (run_text line whats o)
+run_full : (line : ℕ → ℕ → List ℕ) (whats : List What) (o : Option Stop) → o ≡ Some NoRoom → SaysFull (run_text line whats o)
 run_full line whats o e = inr (line (finishes whats) (installs whats), ap (run_text line whats) e)
 
 -- an order of work that does the same on two states that look alike
@@ -572,7 +572,7 @@ atomic_either (Some i) many crowded = inl refl
 atomic_either None true crowded = inl refl
 atomic_either None false crowded = inr refl
 
-atomic_full : (d : DeskView) (block : Block) (o : Option AtomicError) → o ≡ Some atomic.HistoryFull → TellsFull (atomically_block_step d block o).1
+atomic_full : (d : DeskView) (block : Block) (o : Option AtomicError) → o ≡ Some atomic.HistoryFull → SaysFull (atomically_block_step d block o).1
 atomic_full d block o e = inl (ap (λ (x : Option AtomicError). (atomically_block_step d block x).1) e)
 
 fewer_lack : (limit m n k : ℕ) → m ≤ n → nat_lt limit (m + k) ≡ true → nat_lt limit (n + k) ≡ true

@@ -6,8 +6,8 @@ use Rattle.stm_queue.specs.SortedTickets.{IsRising}
 use Rattle.stm_events.specs.SlowDesk as slow
 use Rattle.stm_terms.specs.Limits as limits
 use Rattle.stm_desk.specs.DeskView.{state_of}
-use Rattle.stm_run.specs.AfterLines.{state_after_lines}
-use Rattle.stm_run.specs.Console.{initial_console, answer_to}
+use Rattle.stm_run.specs.AfterLines.{console_reached}
+use Rattle.stm_run.specs.Console.{answer_to}
 use Rattle.stm_run.specs.ConsoleState.{present_desk}
 use Rattle.stm_commands.specs.DueTickets.{due_tickets, queue_for, tickets_out}
 use Rattle.stm_lines.specs.LineClass.{Silent, line_class}
@@ -21,15 +21,15 @@ EndsALine text = (front : List ℕ) × (text ≡ front ++ 10 ∷ [])
 abbrev pub EachLineIsAnswered : Type 0
 EachLineIsAnswered =
     (max_events : ℕ) → max_events ≤ limits.max_events → (before : List (List ℕ)) (line : List ℕ) → line_class line ≢ Silent
-    → EndsALine (answer_to (state_after_lines (initial_console max_events) before) line)
+    → EndsALine (answer_to (console_reached max_events before) line)
 
 -- what the slow desk makes of the events after some lines
 abbrev pub desk_after_lines : ℕ → List (List ℕ) → slow.Slow
-desk_after_lines max_events lines = state_of (present_desk (state_after_lines (initial_console max_events) lines)).desk
+desk_after_lines max_events lines = state_of (present_desk (console_reached max_events lines)).desk
 
 -- the tickets that are queued or out after some lines
 abbrev pub pending_after_lines : ℕ → List (List ℕ) → List Entry
-pending_after_lines max_events lines = (present_desk (state_after_lines (initial_console max_events) lines)).desk.pending
+pending_after_lines max_events lines = (present_desk (console_reached max_events lines)).desk.pending
 
 -- a block that isn't new has a verdict
 abbrev pub HasVerdict : slow.Standing → Type 0

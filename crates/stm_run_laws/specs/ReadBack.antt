@@ -15,8 +15,7 @@ use Rattle.stm_desk.specs.DeskView.{start_state}
 use Rattle.stm_desk_laws.specs.IntegerRange.{IsAct64Bit}
 use Rattle.stm_commands.specs.Contents.{history_answer}
 use Rattle.stm_run.specs.declared.console.Console.{Console}
-use Rattle.stm_run.specs.AfterLines.{state_after_lines}
-use Rattle.stm_run.specs.Console.{initial_console}
+use Rattle.stm_run.specs.AfterLines.{console_reached}
 use Rattle.stm_run.specs.ConsoleState.{present_desk, table_of, checkpoint_of_console, events_of, start_of_console}
 use Rattle.stm_run.specs.Fitting.{AreVerdictsInRange}
 
@@ -30,7 +29,7 @@ LiteralsAreInRange =
 abbrev pub VerdictsFitLines : Type 0
 VerdictsFitLines =
     (max_events : ℕ) → max_events ≤ limits.max_events → (before : List (List ℕ))
-    → AreVerdictsInRange (events_of (state_after_lines (initial_console max_events) before))
+    → AreVerdictsInRange (events_of (console_reached max_events before))
 
 -- ---- lines
 -- each event, from a state on, can be in a line over the names of the state before it
@@ -38,19 +37,23 @@ abbrev pub EventsFitNames : slow.Slow → List Event → Type 0
 EventsFitNames s [] = ⊤
 EventsFitNames s (e ∷ es) = FitsNames s.names e × EventsFitNames (slow.after s e.what) es
 
--- whatever lines came before, each event of the desk can be in a line of a history
+-- each event of a console's desk can be in a line of a history
+abbrev pub EventsFit : Console → Type 0
+EventsFit s = EventsFitNames (start_state (present_desk s).desk) (present_desk s).desk.history
+
+-- what its history begins with can be in lines: the declared variables, or the last checkpoint
+abbrev pub BeginningFits : Console → Type 0
+BeginningFits s = FitsBefore (table_of s) (checkpoint_of_console s)
+
+-- whatever lines came before, the events can be in lines
 abbrev pub EventsFitLines : Type 0
 EventsFitLines =
-    (max_events : ℕ) → max_events ≤ limits.max_events → (before : List (List ℕ))
-    → EventsFitNames (start_state (present_desk (state_after_lines (initial_console max_events) before)).desk)
-    (present_desk (state_after_lines (initial_console max_events) before)).desk.history
+    (max_events : ℕ) → max_events ≤ limits.max_events → (before : List (List ℕ)) → EventsFit (console_reached max_events before)
 
--- so can what the history begins with: the declared variables, or the last checkpoint
+-- so can what the history begins with
 abbrev pub StartsFitLines : Type 0
 StartsFitLines =
-    (max_events : ℕ) → max_events ≤ limits.max_events → (before : List (List ℕ))
-    → FitsBefore (table_of (state_after_lines (initial_console max_events) before))
-    (checkpoint_of_console (state_after_lines (initial_console max_events) before))
+    (max_events : ℕ) → max_events ≤ limits.max_events → (before : List (List ℕ)) → BeginningFits (console_reached max_events before)
 
 -- ---- the text
 -- what `history` prints, on the open desk of a console
@@ -65,5 +68,4 @@ IsPrintedWhole s = IsWholeHistory (read_back (start_of_console s)) (printed_hist
 abbrev pub HistoriesAreReadBack : Type 0
 HistoriesAreReadBack =
     (max_events : ℕ) → max_events ≤ limits.max_events → (before : List (List ℕ))
-    → AreShortLines (printed_history (state_after_lines (initial_console max_events) before))
-    → IsPrintedWhole (state_after_lines (initial_console max_events) before)
+    → AreShortLines (printed_history (console_reached max_events before)) → IsPrintedWhole (console_reached max_events before)

@@ -14,7 +14,7 @@ use Rattle.stm_run.specs.declared.command.Command.TheVariants.{History, Events, 
 use Rattle.stm_run.specs.declared.console.Console.{Console}
 use Rattle.stm_run.specs.Console.{command_named, answer_to, answers_to, state_after, initial_console}
 use Rattle.stm_run.specs.ConsoleState.{present_desk, is_open, table_of, with_checkpoint}
-use Rattle.stm_run.specs.AfterLines.{state_after_lines}
+use Rattle.stm_run.specs.AfterLines.{console_reached}
 use Rattle.stm_run.specs.LineCheckpoints.{Turn, turn_lines, answers_by}
 
 -- ---- consoles that look alike
@@ -56,15 +56,15 @@ class_is_of_history (Words word argument) = word_is_of_history (command_named wo
 abbrev pub line_is_of_history : List ℕ → Bool
 line_is_of_history line = class_is_of_history (line_class line)
 
--- the answer reports that the history has no room
-abbrev pub TellsFull : List ℕ → Type 0
-TellsFull answer = (answer ≡ refused (codes "HistoryFull")) ⊎ ((counts : List ℕ) × (answer ≡ codes "stopped HistoryFull " ++ counts))
+-- the answer says that the history has no room
+abbrev pub SaysFull : List ℕ → Type 0
+SaysFull answer = (answer ≡ refused (codes "HistoryFull")) ⊎ ((counts : List ℕ) × (answer ≡ codes "stopped HistoryFull " ++ counts))
 
--- no line is of the history, and no answer reports that it has no room
+-- no line is of the history, and no answer says that
 abbrev pub HaveRoom : Console → List (List ℕ) → Type 0
 HaveRoom s [] = ⊤
 HaveRoom s (line ∷ rest) =
-    (line_is_of_history line ≡ false) × ¬ TellsFull (answer_to s line) × HaveRoom (state_after s line) rest
+    (line_is_of_history line ≡ false) × ¬ SaysFull (answer_to s line) × HaveRoom (state_after s line) rest
 
 -- ---- the laws
 -- the answer to a line is the same, and the consoles after it look alike
@@ -72,23 +72,25 @@ pub record AnswersTheSame (s s' : Console) (line : List ℕ) : Type 0 where
   pub answer : answer_to s line ≡ answer_to s' line
   pub after : LookAlike (state_after s line) (state_after s' line)
 
+-- the consoles answer the line alike, unless it is of the history or one of them has no room for its events
+abbrev pub AnswerAlike : Console → Console → List ℕ → Type 0
+AnswerAlike s s' line =
+    line_is_of_history line ≡ false → ¬ SaysFull (answer_to s line) → ¬ SaysFull (answer_to s' line) → AnswersTheSame s s' line
+
+-- the console looks like the one that it is after a checkpoint, unless that is refused
+abbrev pub CheckpointIsUnseen : Console → Type 0
+CheckpointIsUnseen s = is_open s ≡ true → are_tickets_full (present_desk s) ≡ false → LookAlike s (with_checkpoint s)
+
 -- what holds whatever lines came before, with whatever checkpoints among them
 pub record CheckpointsAreUnseenByCommands : Type 0 where
-  -- a console looks like the one that it is after a checkpoint, unless that is refused
+  -- a console looks like the one that it is after a checkpoint
   pub checkpoint :
-      (max_events : ℕ) → max_events ≤ limits.max_events → (before : List (List ℕ))
-      → is_open (state_after_lines (initial_console max_events) before) ≡ true
-      → are_tickets_full (present_desk (state_after_lines (initial_console max_events) before)) ≡ false
-      → LookAlike (state_after_lines (initial_console max_events) before)
-      (with_checkpoint (state_after_lines (initial_console max_events) before))
-  -- consoles that look alike answer each line alike, unless it is of the history or one of them has no room for its events
+      (max_events : ℕ) → max_events ≤ limits.max_events → (before : List (List ℕ)) → CheckpointIsUnseen (console_reached max_events before)
+  -- consoles that look alike answer each line alike
   pub line :
       (max_events : ℕ) → max_events ≤ limits.max_events → (before before' : List (List ℕ)) (line : List ℕ)
-      → LookAlike (state_after_lines (initial_console max_events) before) (state_after_lines (initial_console max_events) before')
-      → line_is_of_history line ≡ false
-      → ¬ TellsFull (answer_to (state_after_lines (initial_console max_events) before) line)
-      → ¬ TellsFull (answer_to (state_after_lines (initial_console max_events) before') line)
-      → AnswersTheSame (state_after_lines (initial_console max_events) before) (state_after_lines (initial_console max_events) before') line
+      → LookAlike (console_reached max_events before) (console_reached max_events before')
+      → AnswerAlike (console_reached max_events before) (console_reached max_events before') line
   -- so a run that makes checkpoints by itself, whichever of them can't be made, answers as one that makes none
   pub automatic :
       (max_events : ℕ) → max_events ≤ limits.max_events → (every : ℕ) (turns : List (Turn (Unit {0})))
