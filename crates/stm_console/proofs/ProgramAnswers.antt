@@ -21,11 +21,11 @@ use Rattle.stm_command_line.specs.CommandLine.{answers_of, are_mistakes, is_help
 use Rattle.stm_command_line.specs.declared.command_line.Request.{Request}
 use Rattle.stm_command_line.specs.declared.command_line.Request.TheVariants.{Run, RunOn, Storm, Explore, Check, CheckWhy}
 use Rattle.stm_command_line.proofs.WordAnswers.{help_kind, mistake_kind, memory_kind, version_kind}
-use Rattle.stm_console.specs.Checking.{BeginsFindingText}
 use Rattle.stm_console.specs.ExitStatus.{IsFailure, storm_status}
 use Rattle.stm_console.specs.Program.{Do, Help, Mistake, Several, Version, asked_by, asked_of, ProgramDoes, ReadsNothing, Streams, Writes, WritesNothing, WritesPartOf}
-use Rattle.stm_console.specs.Why.{BeginsAnswerWhy}
 use Rattle.stm_console.specs.declared.status.TheConstants.{DONE, NOT_RIGHT, NO_MEMORY, REFUSED}
+use Rattle.stm_console.proofs.CheckWritten.{finding_unwritten}
+use Rattle.stm_console.proofs.WhyWritten.{why_unwritten}
 
 -- ---- what failed
 
@@ -66,23 +66,13 @@ run_unwritten : (remaining : Option (List ℕ)) (s : Streams) (max_events : ℕ)
 run_unwritten None s max_events k = tt
 run_unwritten (Some input) s max_events k = nothing_written s (console_text max_events input) k
 
-check_unwritten : (remaining : Option (List ℕ)) (s : Streams) → WritesNothing s
-    → IfSome remaining (λ bytes. (front : List ℕ) × BeginsFindingText bytes front × Writes s front)
-check_unwritten None s k = tt
-check_unwritten (Some bytes) s k = ([], inl refl, appends_nothing s.before s.after k)
-
-why_unwritten : (remaining : Option (List ℕ)) (s : Streams) → WritesNothing s
-    → IfSome remaining (λ bytes. (front : List ℕ) × BeginsAnswerWhy bytes front × Writes s front)
-why_unwritten None s k = tt
-why_unwritten (Some bytes) s k = ([], inl refl, appends_nothing s.before s.after k)
-
 unperformed : (request : Request) (s : Streams) (n : ℕ) → n ≡ NO_MEMORY → ReadsNothing s → WritesNothing s → ProgramDoes (Do request) s n
 unperformed (Run options) s n m unread k = inr (inr m, run_unwritten s.input s options.max_events k)
 unperformed (RunOn options sync file) s n m unread k = inr (unread, k, inr (inr m))
 unperformed (Storm options) s n m unread k = inr (inr (inr m))
 unperformed (Explore options) s n m unread k = inr (inr (inr m))
-unperformed Check s n m unread k = inr (inr m, check_unwritten s.input s k)
-unperformed CheckWhy s n m unread k = inr (inr m, why_unwritten s.input s k)
+unperformed Check s n m unread k = inr (inr m, finding_unwritten s.input s.before s.after k)
+unperformed CheckWhy s n m unread k = inr (inr m, why_unwritten s.input s.before s.after k)
 
 -- ---- what clap prints
 

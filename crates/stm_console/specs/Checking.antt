@@ -1,11 +1,15 @@
 -- What `check` finds of bytes, and what it prints.
-use Rattle.std.specs.Prelude.{◌≡◌, ◌⊎◌, ℕ, List, [], ◌++◌, codes, decimal}
+use Rattle.std.specs.Prelude.{◌≡◌, ◌≢◌, ◌⊎◌, ℕ, List, [], ◌++◌, Option, Result, Ok, Err, IfSome, codes, decimal}
+use Rattle.std.specs.Io.KnownBytes.{Appends, Keeps}
 use Rattle.stm_terms.specs.Texts.{IsPrefixOf}
+use Rattle.stm_lines.specs.declared.run_fault.RunFault.{RunFault}
+use Rattle.stm_lines.specs.declared.run_fault.RunFault.TheVariants.{Write}
 use Rattle.stm_history.specs.declared.fault.HistoryFault.TheVariants as fault
 use Rattle.stm_history.specs.declared.fault.Legal.{Legal}
 use Rattle.stm_history.specs.Judgement.{IsHistory, ReportsFault}
 use Rattle.stm_console.specs.declared.checking.Finding.{Finding}
 use Rattle.stm_console.specs.declared.checking.Finding.TheVariants.{Legal as LegalFound, BadHeader, BadLine, NotLegal}
+use Rattle.stm_console.specs.WrittenTexts.{WritesSome}
 
 -- the bytes are the text of a legal history with this number of events, or this is their first fault
 abbrev pub IsFinding : List ℕ → Finding → Type 0
@@ -24,3 +28,11 @@ finding_text (NotLegal n) = codes "not legal " ++ decimal n ++ codes "\n"
 -- nothing, or a prefix of what is printed of the bytes
 abbrev pub BeginsFindingText : List ℕ → List ℕ → Type 0
 BeginsFindingText bytes front = (front ≡ []) ⊎ ((f : Finding) × IsFinding bytes f × IsPrefixOf front (finding_text f))
+
+-- What a check has written, by its result. `input` are the bytes that the reader had left, `old` and `new` those that the writer had before and
+-- has after the call. None if they aren't known.
+abbrev pub WritesFinding : Option (List ℕ) → Option (List ℕ) → Option (List ℕ) → Result Finding RunFault → Type 0
+-- what it found of the bytes
+WritesFinding input old new (Ok f) = IfSome input (λ bytes. IsFinding bytes f) × Appends old new (finding_text f)
+-- nothing, or a front of that; nothing, unless it is the writer that failed
+WritesFinding input old new (Err e) = IfSome input (λ bytes. WritesSome (BeginsFindingText bytes) old new) × (e ≢ Write → Keeps old new)

@@ -2,8 +2,8 @@
 use Rattle.std.specs.Prelude.{◌≡◌, ◌⊎◌, ℕ, List, [], ◌∷◌, Option, None, if◌then◌else◌, IfSome}
 use Rattle.std.specs.Io.KnownBytes.{Appends, Keeps}
 use Rattle.clap.specs.Words.{Kinds}
-use Rattle.stm_terms.specs.Texts.{IsPrefixOf}
 use Rattle.stm_lines.specs.Lines.{lines_of}
+use Rattle.stm_lines.specs.WrittenFronts.{WritesFront}
 use Rattle.stm_history.specs.declared.loading.Loaded.{Loaded}
 use Rattle.stm_journal.specs.Text.{recovered}
 use Rattle.stm_history_file.specs.Durable.{LoadsFront}
@@ -22,6 +22,7 @@ use Rattle.stm_console.specs.ExitStatus.{IsFailure, finding_status}
 use Rattle.stm_console.specs.declared.checking.Finding.{Finding}
 use Rattle.stm_console.specs.Journal.{HasNoHistory}
 use Rattle.stm_console.specs.Why.{BeginsAnswerWhy, IsAnswerWhy}
+use Rattle.stm_console.specs.WrittenTexts.{WritesSome}
 use Rattle.stm_console.specs.declared.status.TheConstants.{DONE, NOT_RIGHT, NO_MEMORY, REFUSED}
 
 -- ---- what words ask for
@@ -80,11 +81,22 @@ abbrev pub Writes : Streams → List ℕ → Type 0
 Writes s text = Appends s.before s.after text
 
 -- a part of this text is written, from its front
-abbrev pub AppendsPartOf : Option (List ℕ) → Option (List ℕ) → List ℕ → Type 0
-AppendsPartOf before after text = (front : List ℕ) × IsPrefixOf front text × Appends before after front
-
 abbrev pub WritesPartOf : Streams → List ℕ → Type 0
-WritesPartOf s text = AppendsPartOf s.before s.after text
+WritesPartOf s text = WritesFront s.before s.after text
+
+-- a text of which P holds is written
+abbrev pub WritesA : Streams → (List ℕ → Type 0) → Type 0
+WritesA s P = WritesSome P s.before s.after
+
+-- ---- how the program ends
+
+-- with this status, and P holds of its input, if that is known
+abbrev pub EndsBy : ℕ → Streams → ℕ → (List ℕ → Type 0) → Type 0
+EndsBy this s status P = (status ≡ this) × IfSome s.input P
+
+-- with the status of a failure, and P holds of its input, if that is known
+abbrev pub Fails : Streams → ℕ → (List ℕ → Type 0) → Type 0
+Fails s status P = IsFailure status × IfSome s.input P
 
 -- ---- a run on a file
 
@@ -96,8 +108,8 @@ OverLines input P = ForTurns (Unit {0}) (lines_of input) P
 -- of it
 abbrev pub RunsFrom : ℕ → Console → Streams → ℕ → Type 0
 RunsFrom every console s status =
-    ((status ≡ DONE) × IfSome s.input (λ input. OverLines input (λ turns. Writes s (answers_by every console turns))))
-    ⊎ (IsFailure status × IfSome s.input (λ input. OverLines input (λ turns. WritesPartOf s (answers_by every console turns))))
+    EndsBy DONE s status (λ input. OverLines input (λ turns. Writes s (answers_by every console turns)))
+    ⊎ Fails s status (λ input. OverLines input (λ turns. WritesPartOf s (answers_by every console turns)))
 
 -- It goes on from the history that was loaded of the file, of which these are the bytes if they are known; or it ends before
 -- anything is read or written: the file has no history, or it can't be opened.
@@ -125,26 +137,24 @@ ProgramDoes Several s status = ReadsNothing s
     ⊎ ((status ≡ DONE) ⊎ IsFailure status))
 -- a run writes the whole text of its input, or a part of it
 ProgramDoes (Do (Run options)) s status =
-    ((status ≡ DONE) × IfSome s.input (λ input. Writes s (console_text options.max_events input)))
-    ⊎ (IsFailure status × IfSome s.input (λ input. WritesPartOf s (console_text options.max_events input)))
+    EndsBy DONE s status (λ input. Writes s (console_text options.max_events input))
+    ⊎ Fails s status (λ input. WritesPartOf s (console_text options.max_events input))
 -- a run on a file goes on from the history that the file has
 ProgramDoes (Do (RunOn options sync file)) s status = RunsOn options (s.files file) s status
 -- a storm writes a text of its script; a failed one if the history that its clients left isn't found legal
 ProgramDoes (Do (Storm options)) s status =
-    ((status ≡ DONE) × IfSome s.input (λ input. (text : List ℕ) × IsStormText input text × Writes s text))
-    ⊎ (((status ≡ NOT_RIGHT) × IfSome s.input (λ input. (text : List ℕ) × IsFailedStormText input text × Writes s text))
-    ⊎ IsFailure status)
+    EndsBy DONE s status (λ input. WritesA s (IsStormText input))
+    ⊎ (EndsBy NOT_RIGHT s status (λ input. WritesA s (IsFailedStormText input)) ⊎ IsFailure status)
 -- an exploration ends with success only if nothing is wrong with any state that its clients can reach, and writes so; with status 3 it
 -- writes which fault it found, or that there are more states than may be kept
 ProgramDoes (Do (Explore options)) s status =
-    ((status ≡ DONE) × IfSome s.input (λ input. WritesRight options.history options input s.before s.after))
-    ⊎ (((status ≡ NOT_RIGHT) × IfSome s.input (λ input. WritesNotRight options.history options input s.before s.after))
-    ⊎ IsFailure status)
+    EndsBy DONE s status (λ input. WritesRight options.history options input s.before s.after)
+    ⊎ (EndsBy NOT_RIGHT s status (λ input. WritesNotRight options.history options input s.before s.after) ⊎ IsFailure status)
 -- a check writes what it finds of the bytes, which the status says too; if it fails, nothing or a part of that
 ProgramDoes (Do Check) s status =
     ((f : Finding) × (status ≡ finding_status f) × IfSome s.input (λ bytes. IsFinding bytes f) × Writes s (finding_text f))
-    ⊎ (IsFailure status × IfSome s.input (λ bytes. (front : List ℕ) × BeginsFindingText bytes front × Writes s front))
+    ⊎ Fails s status (λ bytes. WritesA s (BeginsFindingText bytes))
 -- with `--why` it also writes why
 ProgramDoes (Do CheckWhy) s status =
-    ((f : Finding) × (status ≡ finding_status f) × IfSome s.input (λ bytes. (text : List ℕ) × IsAnswerWhy bytes f text × Writes s text))
-    ⊎ (IsFailure status × IfSome s.input (λ bytes. (front : List ℕ) × BeginsAnswerWhy bytes front × Writes s front))
+    ((f : Finding) × (status ≡ finding_status f) × IfSome s.input (λ bytes. WritesA s (IsAnswerWhy bytes f)))
+    ⊎ Fails s status (λ bytes. WritesA s (BeginsAnswerWhy bytes))

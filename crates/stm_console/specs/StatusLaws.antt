@@ -16,7 +16,7 @@ use Rattle.stm_command_line.specs.declared.command_line.Request.{Request}
 use Rattle.stm_command_line.specs.declared.command_line.Request.TheVariants.{Run, RunOn, Storm, Explore, Check, CheckWhy}
 use Rattle.stm_console.specs.Checking.{BeginsFindingText}
 use Rattle.stm_console.specs.Journal.{HasNoHistory}
-use Rattle.stm_console.specs.Program.{Asked, Do, Help, Mistake, Version, asked_by, OverLines, ProgramDoes, ReadsNothing, Streams, Writes, WritesNothing, WritesPartOf}
+use Rattle.stm_console.specs.Program.{Asked, Do, Help, Mistake, Version, asked_by, OverLines, ProgramDoes, ReadsNothing, Streams, Writes, WritesA, WritesNothing, WritesPartOf}
 use Rattle.stm_console.specs.declared.status.TheConstants.{DONE, NOT_RIGHT, REFUSED}
 
 -- ---- what words ask for
@@ -87,7 +87,7 @@ DoneFilesAnswer = (options : Options) (sync : SyncMode) (file : List ℕ) (s : S
 -- a storm's script is right, and a text of it was written
 abbrev pub DoneStormsReport : Type 0
 DoneStormsReport = (options : Options) (s : Streams) → ProgramDoes (Do (Storm options)) s DONE
-    → IfSome s.input (λ input. (text : List ℕ) × IsStormText input text × Writes s text)
+    → IfSome s.input (λ input. WritesA s (IsStormText input))
 
 -- nothing is wrong with any state that an exploration's clients can reach
 abbrev pub DoneExplorationsAreRight : Type 0
@@ -117,7 +117,7 @@ OtherFilesWriteAPart = (options : Options) (sync : SyncMode) (file : List ℕ) (
 -- a part of what a check prints of the bytes was written, if not all of it
 abbrev pub OtherChecksWriteAPart : Type 0
 OtherChecksWriteAPart = (s : Streams) (status : ℕ) → ProgramDoes (Do Check) s status → status ≢ DONE
-    → IfSome s.input (λ bytes. (front : List ℕ) × BeginsFindingText bytes front × Writes s front)
+    → IfSome s.input (λ bytes. WritesA s (BeginsFindingText bytes))
 
 -- a part of the version's line was written
 abbrev pub OtherVersionsWriteAPart : Type 0

@@ -1,6 +1,9 @@
 -- What `check --why` prints.
-use Rattle.std.specs.Prelude.{◌≡◌, ◌⊎◌, ℕ, List, [], ◌++◌, codes, decimal, string_bytes}
+use Rattle.std.specs.Prelude.{◌≡◌, ◌≢◌, ◌⊎◌, ℕ, List, [], ◌++◌, Option, Result, Ok, Err, IfSome, codes, decimal, string_bytes}
+use Rattle.std.specs.Io.KnownBytes.{Keeps}
 use Rattle.stm_terms.specs.Texts.{IsPrefixOf}
+use Rattle.stm_lines.specs.declared.run_fault.RunFault.{RunFault}
+use Rattle.stm_lines.specs.declared.run_fault.RunFault.TheVariants.{Write}
 use Rattle.stm_history.specs.declared.explanation.CallRefusal.{CallRefusal}
 use Rattle.stm_history.specs.declared.explanation.CallRefusal.TheVariants.{Submission, Delivery, Finish, Cancellation, Declaration, Labelling}
 use Rattle.stm_history.specs.declared.explanation.Explanation.{Explanation}
@@ -11,6 +14,7 @@ use Rattle.stm_commands.specs.Refusals.{submit_error_text, deliver_error_text, f
 use Rattle.stm_console.specs.declared.checking.Finding.{Finding}
 use Rattle.stm_console.specs.declared.checking.Finding.TheVariants.{Legal, BadHeader, BadLine, NotLegal}
 use Rattle.stm_console.specs.Checking.{IsFinding, finding_text}
+use Rattle.stm_console.specs.WrittenTexts.{WritesSome}
 
 -- a refusal, as a run prints it
 abbrev pub call_refusal_text : CallRefusal → List ℕ
@@ -46,3 +50,11 @@ IsAnswerWhy bytes f text = IsFinding bytes f × ((why : List ℕ) × IsWhyText b
 -- nothing, or a prefix of what is printed of the bytes
 abbrev pub BeginsAnswerWhy : List ℕ → List ℕ → Type 0
 BeginsAnswerWhy bytes front = (front ≡ []) ⊎ ((f : Finding) × (text : List ℕ) × IsAnswerWhy bytes f text × IsPrefixOf front text)
+
+-- What a check that also says why has written, by its result. `input` are the bytes that the reader had left, `old` and `new` those that the writer
+-- had before and has after the call. None if they aren't known.
+abbrev pub WritesWhy : Option (List ℕ) → Option (List ℕ) → Option (List ℕ) → Result Finding RunFault → Type 0
+-- what it found of the bytes, and why
+WritesWhy input old new (Ok f) = IfSome input (λ bytes. WritesSome (IsAnswerWhy bytes f) old new)
+-- nothing, or a front of that; nothing, unless it is the writer that failed
+WritesWhy input old new (Err e) = IfSome input (λ bytes. WritesSome (BeginsAnswerWhy bytes) old new) × (e ≢ Write → Keeps old new)

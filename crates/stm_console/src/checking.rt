@@ -1,8 +1,7 @@
 //! `check`: whether the bytes of a reader are the text of a legal history.
 
-ghost use Rattle.std.specs.Prelude.{◌≡◌, ◌≢◌, ◌++◌, ℕ, List, OnErr, OnOk, IfErr, IfOk, IfSome, decimal, string_bytes};
-ghost use Rattle.std.specs.Io.KnownBytes.{Appends, Keeps};
-ghost use Rattle.stm_console.specs.Checking.{IsFinding, BeginsFindingText, finding_text};
+ghost use Rattle.std.specs.Prelude.{◌≡◌, ◌++◌, OnOk, IfErr, IfOk, IfSome, decimal, string_bytes};
+ghost use Rattle.stm_console.specs.Checking.{IsFinding, WritesFinding, finding_text};
 ghost use Rattle.stm_console.specs.ExitStatus.{finding_status};
 
 use crate::status::{DONE, NOT_RIGHT};
@@ -95,16 +94,8 @@ pub fn check<R: Read, W: Write>(
     reader: &mut R,
     writer: &mut W,
 ) -> Result<Finding, RunFault>
-    // What is found of the bytes was written.
-    ensures found { IfOk result (λ f. IfSome (R.remaining reader.old) (λ bytes. IsFinding bytes f)
-        × Appends (W.contents writer.old) (W.contents writer.new) (finding_text f)) }
-    // After a fault nothing or a prefix of it.
-    ensures part { OnErr result (IfSome (R.remaining reader.old) (λ bytes.
-        (front : List ℕ) × BeginsFindingText bytes front
-        × Appends (W.contents writer.old) (W.contents writer.new) front)) }
-    // After a read fault or an out-of-memory error, nothing.
-    ensures unfound { IfErr result (λ e.
-        e ≢ RunFault.Write → Keeps (W.contents writer.old) (W.contents writer.new)) }
+    // By the result: what was found was written, or a part of it.
+    ensures { WritesFinding (R.remaining reader.old) (W.contents writer.old) (W.contents writer.new) result }
 {
     check_with(alloc, Seed::fixed(), reader, writer)
 }
@@ -116,16 +107,8 @@ pub fn check_with<R: Read, W: Write>(
     reader: &mut R,
     writer: &mut W,
 ) -> Result<Finding, RunFault>
-    // What is found of the bytes was written.
-    ensures found { IfOk result (λ f. IfSome (R.remaining reader.old) (λ bytes. IsFinding bytes f)
-        × Appends (W.contents writer.old) (W.contents writer.new) (finding_text f)) }
-    // After a fault nothing or a prefix of it.
-    ensures part { OnErr result (IfSome (R.remaining reader.old) (λ bytes.
-        (front : List ℕ) × BeginsFindingText bytes front
-        × Appends (W.contents writer.old) (W.contents writer.new) front)) }
-    // After a read fault or an out-of-memory error, nothing.
-    ensures unfound { IfErr result (λ e.
-        e ≢ RunFault.Write → Keeps (W.contents writer.old) (W.contents writer.new)) }
+    // By the result: what was found was written, or a part of it.
+    ensures { WritesFinding (R.remaining reader.old) (W.contents writer.old) (W.contents writer.new) result }
 {
     let finding = judge(alloc, seed, reader)?;
     let line = finding_line(alloc, finding)?;

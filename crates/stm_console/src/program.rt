@@ -1,14 +1,14 @@
 //! The program over its words and streams, and its exit status.
 
-ghost use Rattle.std.specs.Prelude.{◌≡◌, ◌⊎◌, ℕ, List, IsTrue, OnErr, OnOk, map};
+ghost use Rattle.std.specs.Prelude.{◌≡◌, ◌⊎◌, IsTrue, OnErr, OnOk, map};
 ghost use Rattle.std.specs.Io.KnownBytes.{Appends, Keeps};
 ghost use Rattle.clap.specs.Values.{kind_of};
-ghost use Rattle.stm_terms.specs.Texts.{IsPrefixOf};
 ghost use Rattle.stm_console.specs.ExitStatus.{IsFailure, storm_status};
-ghost use Rattle.stm_console.specs.Program.{AppendsPartOf, Do, ProgramDoes, asked_by, streams, with_files};
+ghost use Rattle.stm_console.specs.Program.{Do, ProgramDoes, asked_by, streams, with_files};
 ghost use Rattle.stm_console.specs.declared.status.TheConstants.{DONE, FAILED, NO_MEMORY, REFUSED};
 ghost use Rattle.stm_explore_script.specs.ExploreStatus.{explore_status};
 ghost use Rattle.stm_lines.specs.RunStatus.{status_of};
+ghost use Rattle.stm_lines.specs.WrittenFronts.{WritesFront};
 ghost use Rattle.stm_options.specs.Options.{AreRunOptions};
 ghost use Rattle.stm_command_line.specs.CommandLine.{is_mistake, version_line, HasOptionsInRange};
 
@@ -50,8 +50,8 @@ fn report<E: Write>(fault: RunFault, errors: &mut E) -> u8
 fn write_version<W: Write>(alloc: Global, writer: &mut W) -> Result<(), RunFault>
     ensures done { OnOk result
         (Appends (W.contents writer.old) (W.contents writer.new) version_line) }
-    ensures part { OnErr result ((front : List ℕ) × IsPrefixOf front version_line
-        × Appends (W.contents writer.old) (W.contents writer.new) front) }
+    ensures part { OnErr result
+        (WritesFront (W.contents writer.old) (W.contents writer.new) version_line) }
 {
     let line = version_line(alloc)?;
     write_flushed(writer, line.as_bytes())
@@ -61,7 +61,7 @@ fn write_version<W: Write>(alloc: Global, writer: &mut W) -> Result<(), RunFault
 fn print_version<W: Write, E: Write>(alloc: Global, writer: &mut W, errors: &mut E) -> u8
     ensures { ((result ≡ DONE) × Appends (W.contents writer.old) (W.contents writer.new) version_line)
         ⊎ (IsFailure result
-        × AppendsPartOf (W.contents writer.old) (W.contents writer.new) version_line) }
+        × WritesFront (W.contents writer.old) (W.contents writer.new) version_line) }
 {
     match write_version(alloc, writer) {
         Ok(()) => DONE,
@@ -91,7 +91,7 @@ fn print_words<W: Write, E: Write>(
     ensures version { kind_of error.now ≡ ErrorKind.DisplayVersion →
         ((result ≡ DONE) × Appends (W.contents writer.old) (W.contents writer.new) version_line)
         ⊎ (IsFailure result
-        × AppendsPartOf (W.contents writer.old) (W.contents writer.new) version_line) }
+        × WritesFront (W.contents writer.old) (W.contents writer.new) version_line) }
     ensures help { kind_of error.now ≡ ErrorKind.DisplayHelp → (result ≡ DONE) ⊎ IsFailure result }
     ensures mistake { IsTrue (is_mistake (kind_of error.now)) → ((result ≡ REFUSED) ⊎ (result ≡ NO_MEMORY))
         × Keeps (W.contents writer.old) (W.contents writer.new) }

@@ -1,9 +1,10 @@
 //! `check --why`: a check that also prints what would be accepted instead, or why nothing would be.
 
 ghost use Rattle.std.specs.Prelude.{◌≡◌, ◌≢◌, ◌++◌, [], ℕ, List, IfErr, IfOk, IfSome, OnErr, OnOk, codes, decimal, string_bytes};
-ghost use Rattle.std.specs.Io.KnownBytes.{Appends, Keeps};
+ghost use Rattle.std.specs.Io.KnownBytes.{Keeps};
 ghost use Rattle.stm_console.specs.Checking.{finding_text};
-ghost use Rattle.stm_console.specs.Why.{BeginsAnswerWhy, IsAnswerWhy, call_refusal_text, explanation_text};
+ghost use Rattle.stm_console.specs.Why.{BeginsAnswerWhy, IsAnswerWhy, WritesWhy, call_refusal_text, explanation_text};
+ghost use Rattle.stm_console.specs.WrittenTexts.{WritesSome};
 ghost use Rattle.stm_history.specs.Explanation.{ReportsWhy};
 ghost use Rattle.stm_history.specs.Judgement.{ReportsFault};
 
@@ -175,10 +176,10 @@ fn answer_bytes<W: Write>(
     bytes: &[u8],
     writer: &mut W,
 ) -> Result<Finding, RunFault>
-    ensures found { IfOk result (λ f. (text : List ℕ) × IsAnswerWhy bytes.now f text
-        × Appends (W.contents writer.old) (W.contents writer.new) text) }
-    ensures part { OnErr result ((front : List ℕ) × BeginsAnswerWhy bytes.now front
-        × Appends (W.contents writer.old) (W.contents writer.new) front) }
+    ensures found { IfOk result (λ f. WritesSome (IsAnswerWhy bytes.now f)
+        (W.contents writer.old) (W.contents writer.new)) }
+    ensures part { OnErr result (WritesSome (BeginsAnswerWhy bytes.now)
+        (W.contents writer.old) (W.contents writer.new)) }
     ensures unfound { IfErr result (λ e.
         e ≢ RunFault.Write → Keeps (W.contents writer.old) (W.contents writer.new)) }
 {
@@ -201,17 +202,8 @@ pub fn check_why<R: Read, W: Write>(
     reader: &mut R,
     writer: &mut W,
 ) -> Result<Finding, RunFault>
-    // What is found of the bytes was written, and why.
-    ensures found { IfOk result (λ f. IfSome (R.remaining reader.old) (λ bytes.
-        (text : List ℕ) × IsAnswerWhy bytes f text
-        × Appends (W.contents writer.old) (W.contents writer.new) text)) }
-    // After a fault nothing or a prefix of it.
-    ensures part { OnErr result (IfSome (R.remaining reader.old) (λ bytes.
-        (front : List ℕ) × BeginsAnswerWhy bytes front
-        × Appends (W.contents writer.old) (W.contents writer.new) front)) }
-    // After a read fault, or if memory runs out, nothing.
-    ensures unfound { IfErr result (λ e.
-        e ≢ RunFault.Write → Keeps (W.contents writer.old) (W.contents writer.new)) }
+    // By the result: what was found was written, and why, or a part of it.
+    ensures { WritesWhy (R.remaining reader.old) (W.contents writer.old) (W.contents writer.new) result }
 {
     let bytes = read_all(alloc, reader)?;
     answer_bytes(alloc, seed, &bytes, writer)

@@ -3,7 +3,7 @@ use Rattle.stm_console.proofs.ProgramAnswers.{failed}
 use Rattle.stm_console.proofs.program.do_check.Goals as goal
 
 pub returns-in-Ok : goal.returns-in-Ok
-returns-in-Ok g c = let found = c.in-Ok.ensures.found in inl (c.in-Ok.finding, c.status.ensures, found.0, found.1)
+returns-in-Ok g c = let found = c.in-Ok.ensures in inl (c.in-Ok.finding, c.status.ensures, found.0, found.1)
 
 pub returns-in-Err : goal.returns-in-Err
-returns-in-Err g c = inr (failed c.in-Err.fault _ c.report.ensures, c.in-Err.ensures.part)
+returns-in-Err g c = inr (failed c.in-Err.fault _ c.report.ensures, c.in-Err.ensures.0)
