@@ -1,5 +1,5 @@
 -- What a machine holds, and the state of the slow desk that it is at.
-use Rattle.std.specs.Prelude.{◌≡◌, ℕ, Bool, false, ◌<◌, List, None, Some}
+use Rattle.std.specs.Prelude.{◌≡◌, ℕ, Bool, false, ◌<◌, List, None, Some, Result, Ok, Err}
 use Rattle.stm_store.specs.declared.cell.Cell.{Cell}
 use Rattle.stm_store.specs.Naming.{Named}
 use Rattle.stm_eval.specs.declared.message.Evaluated.{Evaluated}
@@ -13,6 +13,7 @@ use Rattle.stm_events.specs.States.{IsPossible}
 use Rattle.stm_events.specs.Refusals.{install_first}
 use Rattle.stm_waiting.specs.declared.waiting.Waiting.{Waiting}
 use Rattle.stm_machine.specs.Entries.{AreDue}
+use Rattle.stm_queue.specs.Queue.{Entry}
 use Rattle.stm_machine.specs.QueueAndIndex.{AreQueued, watches_of}
 
 -- the rule, the store, the names of variables, the next ticket, the waiting blocks by their tickets, the tickets that are queued or out,
@@ -52,6 +53,11 @@ MovesBy what old new = (s : Slow) → IsAt old s → (Allows s what × IsAt new 
 -- the machine is at each state that it was at
 abbrev pub Stays : Parts → Parts → Type 0
 Stays old new = (s : Slow) → IsAt old s → IsAt new s
+
+-- After Ok: this happened, and these tickets are queued or out. After any error the machine is as it was.
+abbrev pub MovesOrStays : {A E : Type 0} → Result A E → What → List Entry → Parts → Parts → Type 0
+MovesOrStays (Ok x) what pending old new = MovesBy what old new × (new.pending ≡ pending)
+MovesOrStays (Err e) what pending old new = new ≡ old
 
 -- what happens, as an event of this client
 abbrev pub event : ℕ → What → Event

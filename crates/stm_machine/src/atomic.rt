@@ -1,13 +1,13 @@
 //! A block that is submitted, evaluated and finished at once.
 
-ghost use Rattle.std.specs.Prelude.{◌≡◌, ◌∷◌, ◌++◌, [], true, false, None, Some, IfOk, OnOk, OnErr};
-ghost use Rattle.stm_store.specs.Cells.{applied_answer as told_of};
+ghost use Rattle.std.specs.Prelude.{◌≡◌, ◌∷◌, ◌++◌, [], None, Some, IfOk, OnOk, OnErr};
+ghost use Rattle.stm_store.specs.Cells.{applied_answer};
 ghost use Rattle.stm_watch.specs.Pairs.{WithReads};
 ghost use Rattle.stm_events.specs.declared.event.What.{What as AnyWhat};
-ghost use Rattle.stm_events.specs.SlowDesk.{Slow, is_blocks};
+ghost use Rattle.stm_events.specs.SlowDesk.{Slow};
 ghost use Rattle.stm_events.specs.Refusals.{overflows, submit_refused};
 ghost use Rattle.stm_waiting.specs.Entries.{AllBelow, with_held};
-ghost use Rattle.stm_machine.specs.Atomic.{IsVerdictOf, IsRunPlan, PlansRun, RunsBlocks, MovesThrough};
+ghost use Rattle.stm_machine.specs.Atomic.{IsVerdictOf, IsRunPlanFor, PlansRunBy, RunsBlocksBy, MayWaitCurrent, MovesThrough};
 ghost use Rattle.stm_machine.specs.Machine.{IsAt, HasTicketLeft};
 ghost use Rattle.stm_machine.specs.QueueAndIndex.{with_tickets};
 
@@ -105,7 +105,7 @@ impl Machine {
     /// What running a block to its end by this verdict is to do.
     pub fn plan_run(&self, verdict: &SharedVerdict) -> Result<Plan, NoMemory>
         ensures verdict { IfOk result (λ p. p.verdict ≡ verdict.now) }
-        ensures plan { IfOk result (λ p. PlansRun self.now verdict.now p.first_new p.stale) }
+        ensures plan { IfOk result (PlansRunBy self.now verdict.now) }
     {
         make_plan(
             self.alloc,
@@ -120,14 +120,12 @@ impl Machine {
     /// A block of this verdict is submitted, evaluated and finished by its plan. It never waits. All memory is taken before the
     /// first change.
     pub fn run(&mut self, plan: &Plan) -> Result<Applied, NoMemory>
-        requires { (s : Slow) × IsAt self.old s × HasTicketLeft s
-            × IsRunPlan s plan.now.verdict plan.now.first_new plan.now.stale }
-        ensures moved { OnOk result (RunsBlocks
-            plan.now.verdict plan.now.first_new plan.now.stale self.old self.new) }
-        ensures applied { IfOk result (λ a. a ≡ told_of self.old.store plan.now.verdict) }
+        requires { (s : Slow) × IsAt self.old s × HasTicketLeft s × IsRunPlanFor s plan.now }
+        ensures done { OnOk result (RunsBlocksBy plan.now self.old self.new) }
+        ensures applied { IfOk result (λ a. a ≡ applied_answer self.old.store plan.now.verdict) }
         ensures pending { OnOk result (self.new.pending
             ≡ with_tickets plan.now.stale self.old.pending) }
-        ensures err { OnErr result (self.new ≡ self.old) }
+        ensures unchanged { OnErr result (self.new ≡ self.old) }
     {
         let stale = plan.stale.as_slice();
         match take_effect(
@@ -154,15 +152,12 @@ impl Machine {
         verdict: SharedVerdict,
         scratch: &Scratch,
     ) -> Result<(), NoMemory>
-        requires { (s : Slow) × IsAt self.old s × HasTicketLeft s
-            × (submit_refused s false block ≡ None)
-            × IsVerdictOf s block verdict scratch.now
-            × (is_blocks verdict ≡ true) }
-        ensures moved { OnOk result (MovesThrough
+        requires { (s : Slow) × IsAt self.old s × MayWaitCurrent s block verdict scratch.now }
+        ensures done { OnOk result (MovesThrough
             (AnyWhat.Submitted self.old.next block ∷ AnyWhat.Installed self.old.next verdict ∷ [])
             self.old self.new) }
         ensures pending { OnOk result (self.new.pending ≡ self.old.pending) }
-        ensures err { OnErr result (self.new ≡ self.old) }
+        ensures unchanged { OnErr result (self.new ≡ self.old) }
     {
         match insert_current(
             &mut self.waiting,

@@ -3,14 +3,13 @@
 ghost use Rattle.std.specs.Prelude.{◌≡◌, ℕ, ◌≤◌, false, not, ◌&&◌, nat_eq, Some, IfOk, OnOk, OnErr, length};
 ghost use Rattle.std.specs.List.{list_any};
 ghost use Rattle.stm_terms.specs.UnlessNoMemory.{RefusedAs};
-ghost use Rattle.stm_store.specs.Cells.{plains, Fits, applied, made_by, applied_answer as told_of};
+ghost use Rattle.stm_store.specs.Cells.{plains, Fits, applied, made_by, applied_answer};
 ghost use Rattle.stm_watch.specs.Pairs.{watches};
 ghost use Rattle.stm_queue.specs.SortedTickets.{IsRising};
-ghost use Rattle.stm_events.specs.declared.event.What.{What as AnyWhat};
 ghost use Rattle.stm_events.specs.SlowDesk.{Slow, waking};
 ghost use Rattle.stm_events.specs.Refusals.{overflows, finish_refused};
-ghost use Rattle.stm_machine.specs.Machine.{IsAt, MovesBy};
-ghost use Rattle.stm_machine.specs.Plans.{IsPlan};
+ghost use Rattle.stm_machine.specs.Machine.{IsAt, MovesOrStays};
+ghost use Rattle.stm_machine.specs.Plans.{IsPlanFor, finish_by};
 ghost use Rattle.stm_machine.specs.QueueAndIndex.{with_tickets};
 
 use crate::index::{forget, queue_all, stale_tickets, unwatch_all};
@@ -87,7 +86,7 @@ pub(crate) fn take_effect(
     ensures entries { pending.new.entries ≡ pending.old.entries }
     ensures tickets { OnOk result (stale ≤ pending.new.room) }
     ensures store { OnOk result (store.new ≡ applied store.old verdict.now) }
-    ensures told { IfOk result (λ a. a ≡ told_of store.old verdict.now) }
+    ensures told { IfOk result (λ a. a ≡ applied_answer store.old verdict.now) }
     ensures err { OnErr result (store.new ≡ store.old) }
 {
     pending.make_room(stale)?;
@@ -103,8 +102,7 @@ impl Machine {
     pub fn plan(&self, ticket: u32) -> Result<Plan, FinishError>
         ensures refused { (s : Slow) → IsAt self.now s
             → RefusedAs FinishError.NoMemory (finish_refused s false ticket) result }
-        ensures plan { IfOk result (λ p. (s : Slow) → IsAt self.now s
-            → IsPlan s ticket p.verdict p.first_new p.stale) }
+        ensures plan { IfOk result (λ p. (s : Slow) → IsAt self.now s → IsPlanFor s ticket p) }
     {
         let waiting = match self.waiting.get(ticket) {
             Some(waiting) => waiting,
@@ -142,15 +140,12 @@ impl Machine {
 
     /// The block takes effect by its plan and waits no more. Its stale tickets are queued.
     pub fn finish(&mut self, ticket: u32, plan: &Plan) -> Result<Applied, NoMemory>
-        requires { (s : Slow) × IsAt self.old s
-            × IsPlan s ticket plan.now.verdict plan.now.first_new plan.now.stale }
-        ensures moved { OnOk result (MovesBy
-            (AnyWhat.Finished ticket plan.now.verdict plan.now.first_new plan.now.stale)
-            self.old self.new) }
-        ensures applied { IfOk result (λ a. a ≡ told_of self.old.store plan.now.verdict) }
-        ensures pending { OnOk result (self.new.pending
-            ≡ with_tickets plan.now.stale self.old.pending) }
-        ensures err { OnErr result (self.new ≡ self.old) }
+        requires { (s : Slow) × IsAt self.old s × IsPlanFor s ticket plan.now }
+        ensures done { MovesOrStays result
+            (finish_by ticket plan.now)
+            (with_tickets plan.now.stale self.old.pending)
+            self.old self.new }
+        ensures applied { IfOk result (λ a. a ≡ applied_answer self.old.store plan.now.verdict) }
     {
         let stale = plan.stale.as_slice();
         match take_effect(

@@ -14,18 +14,18 @@ pub overflow_add-self : goal.overflow_add-self
 overflow_add-self c =
     let s = c.requires.0 in
     let k = subst (λ (m : Parts). IsAt m s) (sym c.self.view_is) c.requires.1 in
-    omega (arith, ticket_small _ s k c.requires.2)
+    omega (arith, ticket_small _ s k c.requires.2.ticket)
 
-pub returns-in-Ok-clause-moved : goal.returns-in-Ok-clause-moved
-returns-in-Ok-clause-moved c = λ z h.
+pub returns-in-Ok-clause-done : goal.returns-in-Ok-clause-done
+returns-in-Ok-clause-done c = λ z h.
     let s = c.requires.0 in
     let k = subst (λ (m : Parts). IsAt m s) (sym c.self.view_is) c.requires.1 in
     let l = subst (λ (m : Parts). IsAt m z) (sym c.self.view_is) h in
     let e : c.self.inside.next ≡ c.args.self.now.next = ap (λ (m : Parts). m.next) c.self.view_is in
-    rw (← e, c.in-Ok.ensures.inserted) (moves_current _ s z _ c.args.block c.args.verdict c.args.scratch.now k c.requires.3 c.requires.4 l c.in-Ok.ensures.watched)
+    rw (← e, c.in-Ok.ensures.inserted) (moves_current _ s z _ c.args.block c.args.verdict c.args.scratch.now k c.requires.2.may c.requires.2.verdict_of l c.in-Ok.ensures.watched)
 
 pub invariant_of-self : goal.invariant_of-self
 invariant_of-self c =
     let s = c.requires.0 in
     let k = subst (λ (m : Parts). IsAt m s) (sym c.self.view_is) c.requires.1 in
-    rw c.in-Ok.ensures.inserted (ready_current c.self.inside.next c.args.block _ c.self.inside.ready.tickets c.self.inside.waiting c.self.inside.pending.entries (below_next _ s k) (next_absent _ s k) c.requires.5 c.self.invariant)
+    rw c.in-Ok.ensures.inserted (ready_current c.self.inside.next c.args.block _ c.self.inside.ready.tickets c.self.inside.waiting c.self.inside.pending.entries (below_next _ s k) (next_absent _ s k) c.requires.2.blocks c.self.invariant)
