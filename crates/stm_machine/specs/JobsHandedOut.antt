@@ -1,15 +1,21 @@
 -- What is handed out to evaluators, and what comes back.
-use Rattle.std.specs.Prelude.{◌≡◌, ℕ, zero, suc, List, [], ◌∷◌, Option, Some, None, option_map}
+use Rattle.std.specs.Prelude.{◌≡◌, ℕ, ◌≤◌, zero, suc, List, [], ◌∷◌, map, take, length, vec_len, Option, Some, None, option_map, Result, Ok, Err}
+use Rattle.std.specs.Global.{Vec}
+use Rattle.stm_terms.specs.declared.kinds.Ty.{Ty}
+use Rattle.stm_terms.specs.declared.values.Value.{Value}
 use Rattle.stm_terms.specs.ReadSet.{reads_of}
+use Rattle.stm_store.specs.Cells.{plains}
 use Rattle.stm_check.specs.TypedBlock.{Block}
+use Rattle.stm_eval.specs.CoveredJobs.{AreJobsCovered}
 use Rattle.stm_eval.specs.declared.job.Job.{Job}
 use Rattle.stm_eval.specs.declared.message.Evaluated.{Evaluated}
 use Rattle.stm_eval.specs.EvaluatedFields.{message_ticket, message_block, message_reads, message_verdict}
-use Rattle.stm_queue.specs.Queue.{Entry, first_queued, sent_out}
+use Rattle.stm_queue.specs.Queue.{Entry, first_queued, queued, sent_out}
 use Rattle.stm_events.specs.SlowDesk.{Waiter, Slow, under, verdict_on, find_waiter}
 use Rattle.stm_waiting.specs.declared.waiting.Waiting.{Waiting}
 use Rattle.stm_waiting.specs.Entries.{kept_at}
 use Rattle.stm_events.specs.Refusals.{differing}
+use Rattle.stm_machine.specs.Machine.{Parts, IsAt}
 
 -- the n lowest queued tickets are out
 abbrev pub sent : ℕ → List Entry → List Entry
@@ -43,3 +49,21 @@ pub record IsPresent (s : Slow) (t : ℕ) (m : Evaluated) : Type 0 where
   pub verdict : verdict_on s.store one.block ≡ Some (message_verdict m)
   pub reads : message_reads m ≡ reads_of (under s.store) one.block.tree
   pub differs : differing (under s.store) (message_reads m) ≡ None
+
+-- the jobs of the n lowest queued tickets, or of all of them, with a copy of the store, handed out by a machine
+pub record AreHandedOut (n : ℕ) (old : Parts) (store : List (Ty × Value)) (jobs : Vec Job) : Type 0 where
+  -- they are of the lowest queued tickets
+  pub tickets : map (λ j. j.ticket) jobs.items ≡ take n (queued old.pending)
+  -- each is of the block that waits under its ticket, on each state that the machine is at
+  pub blocks : (s : Slow) → IsAt old s → AreJobs s jobs.items
+  -- the copy is of the present store
+  pub present : store ≡ plains old.store
+  -- the copy has their variables
+  pub covered : AreJobsCovered store jobs.items
+  -- at most n
+  pub few : vec_len jobs ≤ n
+
+-- After Ok: the jobs with the copy, and their tickets are out. After any error the machine is as it was.
+abbrev pub TakesJobs : {E : Type 0} → ℕ → Parts → Result (List (Ty × Value) × Vec Job) E → Parts → Type 0
+TakesJobs n old (Ok r) new = AreHandedOut n old r.0 r.1 × (new ≡ record old { pending = sent (length r.1.items) old.pending })
+TakesJobs n old (Err e) new = new ≡ old

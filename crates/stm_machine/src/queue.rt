@@ -1,14 +1,12 @@
 //! Work that is handed out, and comes back. No event tells of it: the machine stays at its state.
 
-ghost use Rattle.std.specs.Prelude.{◌≡◌, ◌≢◌, ◌≤◌, ℕ, true, false, None, map, take, length, vec_len, IfOk, OnErr};
-ghost use Rattle.stm_store.specs.Cells.{plains};
+ghost use Rattle.std.specs.Prelude.{◌≡◌, ◌≢◌, ◌≤◌, ℕ, true, false, None, map, take, vec_len, IfOk};
 ghost use Rattle.stm_queue.specs.Queue.{has_ticket, queued, is_out, marked, recalled};
 ghost use Rattle.stm_events.specs.SlowDesk.{Slow};
 ghost use Rattle.stm_waiting.specs.Entries.{kept_at};
 ghost use Rattle.stm_machine.specs.Machine.{IsAt, Stays};
 ghost use Rattle.stm_events.specs.Refusals.{pending_left};
-ghost use Rattle.stm_eval.specs.CoveredJobs.{AreJobsCovered};
-ghost use Rattle.stm_machine.specs.JobsHandedOut.{sent, AreJobs, AreKept, IsKeptJob};
+ghost use Rattle.stm_machine.specs.JobsHandedOut.{sent, AreKept, IsKeptJob, TakesJobs};
 
 use crate::machine::Machine;
 use std::alloc::Global;
@@ -86,16 +84,8 @@ impl Machine {
     /// present store, which has their variables.
     pub fn take(&mut self, n: usize) -> Result<(Frozen, Vec<Job>), NoMemory>
         requires { (s : Slow) × IsAt self.old s }
-        ensures tickets { IfOk result (λ r. map (λ j. j.ticket) r.1.items
-            ≡ take n (queued self.old.pending)) }
-        ensures blocks { IfOk result (λ r. (s : Slow) → IsAt self.old s → AreJobs s r.1.items) }
-        ensures store { IfOk result (λ r. r.0 ≡ plains self.old.store) }
-        ensures covered { IfOk result (λ r. AreJobsCovered r.0 r.1.items) }
-        ensures few { IfOk result (λ r. vec_len r.1 ≤ n) }
-        ensures out { IfOk result (λ r. self.new
-            ≡ record self.old { pending = sent (length r.1.items) self.old.pending }) }
+        ensures taken { TakesJobs n self.old result self.new }
         ensures kept { Stays self.old self.new }
-        ensures err { OnErr result (self.new ≡ self.old) }
     {
         let frozen = self.store.freeze()?;
         let jobs = jobs_of(self.alloc, &self.waiting, &self.pending, n)?;

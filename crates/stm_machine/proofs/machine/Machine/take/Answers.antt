@@ -1,4 +1,4 @@
-use Rattle.std.proofs.Common.{sym, subst}
+use Rattle.std.proofs.Common.{refl, sym, subst}
 use Rattle.stm_machine.specs.Machine.{Parts, IsAt}
 use Rattle.stm_machine.specs.JobsHandedOut.{AreJobs}
 use Rattle.stm_machine.proofs.States.{covered_at, requeued}
@@ -12,18 +12,20 @@ jobs_of-requires c =
     let k = subst (λ (m : Parts). IsAt m s) (sym c.self.view_is) h in
     queued_wait _ s k
 
-pub returns-clause-blocks : goal.returns-clause-blocks
-returns-clause-blocks c = λ s h.
-    let k = subst (λ (m : Parts). IsAt m s) (sym c.self.view_is) h in
-    are_jobs s c.self.inside.waiting c.in_ok-jobs.jobs.items k.stands.entries_are c.in_ok-jobs.ensures.blocks
-
-pub returns-clause-covered : goal.returns-clause-covered
-returns-clause-covered c =
+pub returns-clause-taken : goal.returns-clause-taken
+returns-clause-taken c =
     let s = c.requires.0 in let h = c.requires.1 in
     let k = subst (λ (m : Parts). IsAt m s) (sym c.self.view_is) h in
     let js : AreJobs s c.in_ok-jobs.jobs.items = are_jobs s c.self.inside.waiting c.in_ok-jobs.jobs.items k.stands.entries_are c.in_ok-jobs.ensures.blocks in
-    rw (c.in_ok-frozen.ensures, k.stands.store_is)
-    (are_covered s c.in_ok-jobs.jobs.items (covered_at _ s k) js)
+    (record {
+      tickets = rw (← c.self.view_is) c.in_ok-jobs.ensures.tickets;
+      blocks = λ s h.
+          let k = subst (λ (m : Parts). IsAt m s) (sym c.self.view_is) h in
+          are_jobs s c.self.inside.waiting c.in_ok-jobs.jobs.items k.stands.entries_are c.in_ok-jobs.ensures.blocks;
+      present = rw (← c.self.view_is) c.in_ok-frozen.ensures;
+      covered = rw (c.in_ok-frozen.ensures, k.stands.store_is) (are_covered s c.in_ok-jobs.jobs.items (covered_at _ s k) js);
+      few = c.in_ok-jobs.ensures.few;
+    }, rw (c.send_out.ensures, c.len.ensures, ← c.self.view_is) refl)
 
 pub returns-clause-kept : goal.returns-clause-kept
 returns-clause-kept c = λ s h.
