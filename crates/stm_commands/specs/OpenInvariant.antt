@@ -14,9 +14,9 @@ use Rattle.stm_events.specs.declared.event.Event.{Event}
 use Rattle.stm_events.specs.SlowDesk.{Slow, Waiter, is_current, find_waiter}
 use Rattle.stm_events.specs.States.{IsTicketOf, IsLegalFrom}
 use Rattle.stm_machine.specs.Checkpoints.{MayStart}
+use Rattle.stm_machine.specs.Machine.{installation_of}
 use Rattle.stm_jobs.specs.Answers.{AnswersJob}
 use Rattle.stm_source.specs.LaterNames.{NamesFollow}
-use Rattle.stm_desk.specs.Events.{installation_of}
 use Rattle.stm_desk.specs.Refusals.{RefusesDelivery, requeued_if_overtaken}
 use Rattle.stm_desk.specs.DeskView.{DeskView, start_state, state_of, with_event}
 use Rattle.stm_commands.specs.declared.jobs.KeptJob.{KeptJob}

@@ -5,9 +5,8 @@ ghost use Rattle.stm_terms.specs.Limits.{max_clients};
 ghost use Rattle.stm_eval.specs.EvaluatedFields.{message_ticket, message_block};
 ghost use Rattle.stm_events.specs.Refusals.{without_message};
 ghost use Rattle.stm_events.specs.States.{IsTicketOf};
-ghost use Rattle.stm_machine.specs.Machine.{MayDeliver};
+ghost use Rattle.stm_machine.specs.Machine.{MayDeliver, installation_of};
 ghost use Rattle.stm_desk.specs.DeskView.{state_of, is_full, with_event};
-ghost use Rattle.stm_desk.specs.Events.{installation_of};
 ghost use Rattle.stm_desk.specs.Limit.{limited_delivery};
 ghost use Rattle.stm_desk.specs.Refusals.{RefusesDelivery, requeued_if_overtaken};
 

@@ -3,14 +3,16 @@ use Rattle.std.specs.Prelude.{◌≡◌, ℕ, Bool, false, ◌<◌, List, None, 
 use Rattle.stm_store.specs.declared.cell.Cell.{Cell}
 use Rattle.stm_store.specs.Naming.{Named}
 use Rattle.stm_eval.specs.declared.message.Evaluated.{Evaluated}
-use Rattle.stm_eval.specs.EvaluatedFields.{message_ticket, message_block, message_reads}
+use Rattle.stm_eval.specs.EvaluatedFields.{message_ticket, message_block, message_reads, message_verdict}
 use Rattle.stm_watch.specs.Pairs.{Pairs, has_pair}
 use Rattle.stm_events.specs.declared.event.Event.{Event}
 use Rattle.stm_events.specs.declared.event.What.{What}
+use Rattle.stm_events.specs.declared.event.What.TheVariants.{Installed}
+use Rattle.stm_events.specs.declared.errors.DeliverError.{DeliverError}
 use Rattle.stm_events.specs.declared.staleness.StalenessRule.{StalenessRule}
 use Rattle.stm_events.specs.SlowDesk.{Waiter, Slow, find_waiter, after, Allows}
 use Rattle.stm_events.specs.States.{IsPossible}
-use Rattle.stm_events.specs.Refusals.{install_first}
+use Rattle.stm_events.specs.Refusals.{install_first, DeliveryRefusedAs}
 use Rattle.stm_waiting.specs.declared.waiting.Waiting.{Waiting}
 use Rattle.stm_machine.specs.Entries.{AreDue}
 use Rattle.stm_queue.specs.Queue.{Entry}
@@ -66,6 +68,15 @@ event client what = record { client = client; what = what }
 -- the next ticket isn't the last number of 32 bits
 abbrev pub HasTicketLeft : Slow → Type 0
 HasTicketLeft s = s.next < 4294967295
+
+-- the installation of a message's verdict
+abbrev pub installation_of : Evaluated → What
+installation_of message = Installed (message_ticket message) (message_verdict message)
+
+-- the message is refused as it is on each state that the machine is at, for the first reason that holds
+abbrev pub RefusesMessage : {A : Type 0} → Parts → Evaluated → Result A DeliverError → Type 0
+RefusesMessage m message result =
+    (s : Slow) → IsAt m s → DeliveryRefusedAs s false (message_ticket message) (message_block message) (message_reads message) result
 
 -- if a block waits under the ticket of the message, the message is of a block with its tree
 abbrev pub IsOfWaiter : Slow → Evaluated → Type 0

@@ -5,10 +5,9 @@ ghost use Rattle.stm_terms.specs.Value.{same_value};
 ghost use Rattle.stm_watch.specs.Pairs.{WithReads};
 ghost use Rattle.stm_queue.specs.Queue.{without_ticket};
 ghost use Rattle.stm_eval.specs.EvaluatedFields.{message_ticket, message_block, message_reads, message_verdict};
-ghost use Rattle.stm_events.specs.declared.event.What.{What as AnyWhat};
 ghost use Rattle.stm_events.specs.SlowDesk.{Slow, under};
-ghost use Rattle.stm_events.specs.Refusals.{differing, has_value, DeliveryRefusedAs};
-ghost use Rattle.stm_machine.specs.Machine.{IsAt, IsOfWaiter, MayDeliver, MovesBy};
+ghost use Rattle.stm_events.specs.Refusals.{differing, has_value};
+ghost use Rattle.stm_machine.specs.Machine.{IsAt, IsOfWaiter, MayDeliver, RefusesMessage, MovesOrStays, installation_of};
 
 use crate::machine::Machine;
 use std::alloc::Global;
@@ -97,9 +96,7 @@ fn take_memory(
 impl Machine {
     /// Why the message can't be delivered.
     pub fn may_deliver(&self, message: &Evaluated) -> Result<(), DeliverError>
-        ensures refused { (s : Slow) → IsAt self.now s
-            → DeliveryRefusedAs s false (message_ticket message.now) (message_block message.now)
-            (message_reads message.now) result }
+        ensures refused { RefusesMessage self.now message.now result }
         ensures allowed { OnOk result ((s : Slow) → IsAt self.now s → MayDeliver s message.now) }
     {
         let waiting = match self.waiting.get(message.ticket()) {
@@ -115,9 +112,7 @@ impl Machine {
     /// The same of a message that is of the block that waits under its ticket, if one does: its block is not compared.
     pub fn may_deliver_own(&self, message: &Evaluated) -> Result<(), DeliverError>
         requires own { (s : Slow) → IsAt self.now s → IsOfWaiter s message.now }
-        ensures refused { (s : Slow) → IsAt self.now s
-            → DeliveryRefusedAs s false (message_ticket message.now) (message_block message.now)
-            (message_reads message.now) result }
+        ensures refused { RefusesMessage self.now message.now result }
         ensures allowed { OnOk result ((s : Slow) → IsAt self.now s → MayDeliver s message.now) }
     {
         let ticket = message.ticket();
@@ -140,14 +135,12 @@ impl Machine {
     #[inline(always)]
     pub fn deliver(&mut self, message: Evaluated) -> Result<SharedVerdict, (Evaluated, NoMemory)>
         requires { (s : Slow) × IsAt self.old s × MayDeliver s message }
-        ensures moved { OnOk result
-            (MovesBy (AnyWhat.Installed (message_ticket message) (message_verdict message))
-            self.old self.new) }
+        ensures done { MovesOrStays result
+            (installation_of message)
+            (without_ticket (message_ticket message) self.old.pending)
+            self.old self.new }
         ensures verdict { IfOk result (λ v. v ≡ message_verdict message) }
-        ensures pending { OnOk result (self.new.pending
-            ≡ without_ticket (message_ticket message) self.old.pending) }
         ensures back { IfErr result (λ e. e.0 ≡ message) }
-        ensures err { OnErr result (self.new ≡ self.old) }
     {
         match take_memory(self.alloc, &mut self.watch, &mut self.ready, &message) {
             Ok((verdict, told)) => {

@@ -5,10 +5,10 @@
 ghost use Rattle.std.specs.Prelude.{◌≡◌, ◌<◌, List, IsTrue, IfOk, OnOk, IfErr, OnErr, IfSome};
 ghost use Rattle.stm_terms.specs.Names.{is_name_text};
 ghost use Rattle.stm_store.specs.Tables.{Declared};
-ghost use Rattle.stm_machine.specs.Machine.{event};
+ghost use Rattle.stm_machine.specs.Machine.{event, installation_of};
 ghost use Rattle.stm_events.specs.declared.event.Event.{Event as AnyEvent};
 ghost use Rattle.stm_events.specs.declared.event.What.TheVariants.{Submitted, Cancelled, Declared as DeclaredLate};
-ghost use Rattle.stm_desk.specs.Events.{installation_of, finish_of};
+ghost use Rattle.stm_desk.specs.Events.{finish_of};
 ghost use Rattle.stm_pool.specs.Own.{with_own};
 ghost use Rattle.stm_pool.specs.Found.{IsFound};
 ghost use Rattle.stm_pool.specs.Shown.{IsShown, IsPresentView};

@@ -7,11 +7,11 @@ ghost use Rattle.stm_store.specs.Cells.{plains, Covers, applied_answer as told_o
 ghost use Rattle.stm_eval.specs.EvaluatedFields.{message_ticket};
 ghost use Rattle.stm_events.specs.declared.event.What.TheVariants.{Submitted, Cancelled, Declared as DeclaredLate};
 ghost use Rattle.stm_machine.specs.JobsHandedOut.{block_at};
-ghost use Rattle.stm_machine.specs.Machine.{event};
+ghost use Rattle.stm_machine.specs.Machine.{event, installation_of};
 ghost use Rattle.stm_events.specs.Refusals.{without_message};
 ghost use Rattle.stm_queue.specs.Queue.{is_out, marked, first_queued, sent_out};
 ghost use Rattle.stm_desk.specs.DeskView.{state_of, with_event};
-ghost use Rattle.stm_desk.specs.Events.{installation_of, finish_of};
+ghost use Rattle.stm_desk.specs.Events.{finish_of};
 ghost use Rattle.stm_desk.specs.Refusals.{submit_refusal, late_declare_refusal, cancel_refusal, finish_refusal, RefusesDelivery, requeued_if_overtaken};
 ghost use Rattle.stm_pool.specs.Own.{own_of, with_own, events_in_passes};
 ghost use Rattle.stm_pool.specs.Shown.{IsShown, IsPresentView};
