@@ -1,6 +1,6 @@
 -- A checkpoint: a state that a history may begin from, as it can be kept and written. Of each waiting block it has what its last
 -- delivery brought, whether it is stale, why it is if that is known, and its label.
-use Rattle.std.specs.Prelude.{◌≡◌, ◌≢◌, ℕ, ◌<◌, ◌≤◌, Bool, true, false, not, ◌&&◌, if◌then◌else◌, List, [], ◌∷◌, ◌++◌, map, length, Option, Some, None, option_map}
+use Rattle.std.specs.Prelude.{◌≡◌, ◌≢◌, ℕ, ◌<◌, ◌≤◌, Bool, true, false, not, ◌&&◌, if◌then◌else◌, nat_lt, List, [], ◌∷◌, ◌++◌, map, length, Option, Some, None, option_map, Result, Ok, Err}
 use Rattle.stm_terms.specs.declared.kinds.Ty.{Ty}
 use Rattle.stm_terms.specs.declared.values.Value.{Value}
 use Rattle.stm_terms.specs.declared.values.Value.TheVariants as value
@@ -16,6 +16,7 @@ use Rattle.stm_check.specs.TypedBlock.{Block}
 use Rattle.stm_eval.specs.Messages.{Holds}
 use Rattle.stm_events.specs.Delivered.{Delivered}
 use Rattle.stm_events.specs.declared.kept_cause.KeptCause.{KeptCause}
+use Rattle.stm_events.specs.KeptCauses.{KeptCauses, kept_cause_of}
 use Rattle.stm_events.specs.Labels.{Labels, AreLabels, is_label, label_of}
 use Rattle.stm_events.specs.declared.staleness.StalenessRule.{StalenessRule}
 use Rattle.stm_events.specs.declared.staleness.StalenessRule.TheVariants.{Changed}
@@ -24,7 +25,11 @@ use Rattle.stm_events.specs.Refusals.{differing}
 use Rattle.stm_events.specs.SlowDesk.{Since, Waiter, Slow, under, verdict_on, is_new, is_current, initial_state}
 use Rattle.stm_terms.specs.Limits.{max_waiting}
 use Rattle.stm_events.specs.States.{IsPossible, IsTypedState, observed}
+use Rattle.stm_machine.specs.declared.checkpoint.AddError.{AddError}
+use Rattle.stm_machine.specs.declared.checkpoint.AddError.TheVariants.{NotPossible}
 use Rattle.stm_machine.specs.declared.checkpoint.CheckpointBlock.{CheckpointBlock}
+use Rattle.stm_machine.specs.declared.checkpoint.CheckpointError.{CheckpointError}
+use Rattle.stm_machine.specs.declared.checkpoint.CheckpointError.TheVariants.{TicketsFull}
 use Rattle.stm_waiting.specs.declared.waiting.Held.{Held}
 
 -- the store, the names of its variables, the next ticket, and the waiting blocks, in ascending order of their tickets
@@ -130,6 +135,10 @@ AreCheckpointBlocks store n k (b ∷ bs) =
 abbrev pub max_next : ℕ
 max_next = 4293918719
 
+-- why a state with this next ticket can't be a checkpoint, if it can't: tickets could run out in a history after it
+abbrev pub checkpoint_refused : ℕ → Option CheckpointError
+checkpoint_refused next = if nat_lt max_next next then Some TicketsFull else None
+
 -- a checkpoint
 pub record IsCheckpoint (c : CheckpointView) : Type 0 where
   pub begun : 0 < c.next
@@ -142,6 +151,12 @@ pub record IsCheckpoint (c : CheckpointView) : Type 0 where
 -- the block may be added: the checkpoint with it is one
 abbrev pub MayAdd : CheckpointView → CheckpointBlock → Type 0
 MayAdd c b = IsCheckpoint (record c { blocks = c.blocks ++ b ∷ [] })
+
+-- After Ok the block may be added, and is after the others. After any error the checkpoint is as it was; the error says that the block
+-- can't be added only if it may not.
+abbrev pub AddsBlock : CheckpointView → CheckpointBlock → Result (Unit {0}) AddError → CheckpointView → Type 0
+AddsBlock old b (Ok done) new = MayAdd old b × (new ≡ record old { blocks = old.blocks ++ b ∷ [] })
+AddsBlock old b (Err e) new = (e ≡ NotPossible → MayAdd old b → ⊥) × (new ≡ old)
 
 -- events may go on from the state of a checkpoint, and all in it is well typed
 abbrev pub CheckpointsArePossible : Type 0
@@ -205,10 +220,18 @@ abbrev pub MayHaveCauses : List Cell → ℕ → (ℕ → Option KeptCause) → 
 MayHaveCauses store n causes [] = Unit {0}
 MayHaveCauses store n causes (b ∷ bs) = MayHaveCause store n b.stale b.waiting.held (causes b.ticket) × MayHaveCauses store n causes bs
 
+-- the causes that the tickets have by a table
+abbrev pub causes_by : KeptCauses → ℕ → Option KeptCause
+causes_by table t = kept_cause_of t table
+
+-- each waiting block of the checkpoint may have its cause
+abbrev pub MayGetCauses : (ℕ → Option KeptCause) → CheckpointView → Type 0
+MayGetCauses causes c = MayHaveCauses c.store c.next causes c.blocks
+
 -- a checkpoint whose blocks get causes that they may have stays one, of the same state
 abbrev pub CausesLeaveCheckpoints : Type 0
 CausesLeaveCheckpoints =
-    (causes : ℕ → Option KeptCause) (c : CheckpointView) → MayHaveCauses c.store c.next causes c.blocks → IsCheckpoint c
+    (causes : ℕ → Option KeptCause) (c : CheckpointView) → MayGetCauses causes c → IsCheckpoint c
     → IsCheckpoint (with_causes causes c) × (checkpoint_state (with_causes causes c) ≡ checkpoint_state c)
 
 -- ---- the labels with which a history begins

@@ -2,6 +2,7 @@
 
 ghost use Rattle.std.specs.Prelude.{◌≡◌, ◌<◌, ◌≤◌, ◌++◌, ◌∷◌, [], false, true, map, option_map, IfOk, OnOk, OnErr, IsErrOf, IsTrue, ◌↔◌};
 ghost use Rattle.stm_terms.specs.Changes.{find};
+ghost use Rattle.stm_terms.specs.UnlessNoMemory.{RefusedAs};
 ghost use Rattle.stm_store.specs.Cells.{plains, Covers};
 ghost use Rattle.stm_store.specs.Naming.{named_uses};
 ghost use Rattle.stm_events.specs.KeptCauses.{kept_cause_of};
@@ -9,7 +10,7 @@ ghost use Rattle.stm_events.specs.Labels.{AreLabels};
 ghost use Rattle.stm_events.specs.SlowDesk.{Slow};
 ghost use Rattle.stm_events.specs.States.{IsTypedState};
 ghost use Rattle.stm_events.specs.declared.staleness.StalenessRule.{StalenessRule as AnyRule};
-ghost use Rattle.stm_machine.specs.Checkpoints.{IsCheckpoint, CheckpointsArePossible, CheckpointsAreUnseen, LabelsLeaveCheckpoints, CausesLeaveCheckpoints, checkpoint_of, labelled_block, with_labels, caused_block, with_causes, differs_from, all_differ, IsKeptCause, MayHaveCause, MayHaveCauses, MayAdd, checkpoint_block, held_of, is_stale_delivery, checkpoint_state, max_next};
+ghost use Rattle.stm_machine.specs.Checkpoints.{IsCheckpoint, CheckpointsArePossible, CheckpointsAreUnseen, LabelsLeaveCheckpoints, CausesLeaveCheckpoints, checkpoint_of, labelled_block, with_labels, caused_block, with_causes, differs_from, all_differ, IsKeptCause, MayHaveCause, MayGetCauses, causes_by, MayAdd, AddsBlock, checkpoint_block, held_of, is_stale_delivery, checkpoint_state, max_next, checkpoint_refused};
 ghost use Rattle.stm_machine.specs.CheckpointEntries.{EntriesRise, HasPlace, MayWait, block_of, last_ticket};
 ghost use Rattle.stm_machine.specs.Machine.{IsAt};
 ghost use Rattle.stm_machine.specs.SettleChoices.{some_out};
@@ -159,7 +160,7 @@ fn caused(
     block: CheckpointBlock,
     causes: &CauseTable,
 ) -> Result<CheckpointBlock, NoMemory>
-    ensures { IfOk result (λ b. b ≡ caused_block (λ t. kept_cause_of t causes.now) block) }
+    ensures { IfOk result (λ b. b ≡ caused_block (causes_by causes.now) block) }
 {
     let CheckpointBlock {
         ticket,
@@ -212,7 +213,7 @@ fn all_caused(
     blocks: Vec<CheckpointBlock>,
     causes: &CauseTable,
 ) -> Result<Vec<CheckpointBlock>, NoMemory>
-    ensures { IfOk result (λ bs. bs.items ≡ map (caused_block (λ t. kept_cause_of t causes.now)) blocks.items) }
+    ensures { IfOk result (λ bs. bs.items ≡ map (caused_block (causes_by causes.now)) blocks.items) }
 {
     let mut all = Vec::new(alloc);
     for block in blocks {
@@ -330,12 +331,7 @@ impl Checkpoint {
         cause: Option<KeptCause>,
         label: SharedName,
     ) -> Result<(), AddError>
-        ensures added { OnOk result (self.new
-            ≡ record self.old { blocks = self.old.blocks ++ checkpoint_block ticket block delivery cause label ∷ [] }) }
-        ensures may { OnOk result (MayAdd self.old (checkpoint_block ticket block delivery cause label)) }
-        ensures refused { IsErrOf result AddError.NotPossible
-            → MayAdd self.old (checkpoint_block ticket block delivery cause label) → ⊥ }
-        ensures err { OnErr result (self.new ≡ self.old) }
+        ensures added { AddsBlock self.old (checkpoint_block ticket block delivery cause label) result self.new }
     {
         let block = self.checked(alloc, ticket, block, delivery, cause, label)?;
         push_block(&mut self.blocks, block)?;
@@ -398,8 +394,8 @@ impl Checkpoint {
 
     /// The checkpoint with these causes in place of those that its blocks had.
     pub fn with_causes(self, alloc: Global, causes: &CauseTable) -> Result<Checkpoint, NoMemory>
-        requires { MayHaveCauses self.store self.next (λ t. kept_cause_of t causes.now) self.blocks }
-        ensures { IfOk result (λ c. c ≡ with_causes (λ t. kept_cause_of t causes.now) self) }
+        requires { MayGetCauses (causes_by causes.now) self }
+        ensures { IfOk result (λ c. c ≡ with_causes (causes_by causes.now) self) }
     {
         let Checkpoint {
             store,
@@ -457,9 +453,7 @@ impl Machine {
         requires labels { AreLabels labels.now }
         ensures taken { IfOk result (λ c. (s : Slow) → IsAt self.now s
             → c ≡ with_labels labels.now (checkpoint_of s)) }
-        ensures room { OnOk result (self.now.next ≤ max_next) }
-        ensures full { IsErrOf result CheckpointError.TicketsFull → max_next < self.now.next }
-        ensures no_memory { IsErrOf result CheckpointError.NoMemory → self.now.next ≤ max_next }
+        ensures refused { RefusedAs CheckpointError.NoMemory (checkpoint_refused self.now.next) result }
     {
         if self.next > Checkpoint::MAX_NEXT {
             return Err(CheckpointError::TicketsFull);
