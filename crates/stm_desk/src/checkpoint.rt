@@ -1,12 +1,10 @@
 //! A history that begins from where the desk is.
 
-ghost use Rattle.std.specs.Prelude.{◌≡◌, ℕ, ◌<◌, ◌≤◌, length, Some, option_map, IfOk, OnOk, OnErr, IsErrOf};
-ghost use Rattle.stm_events.specs.Labels.{label_of};
-ghost use Rattle.stm_events.specs.States.{observed};
-ghost use Rattle.stm_machine.specs.Checkpoints.{MayStart, checkpoint_of, with_labels, max_next};
+ghost use Rattle.std.specs.Prelude.{◌≡◌, Some, option_map, IfOk, OnErr};
+ghost use Rattle.stm_terms.specs.UnlessNoMemory.{RefusedAs};
+ghost use Rattle.stm_machine.specs.Checkpoints.{MayStart, checkpoint_of, with_labels};
 ghost use Rattle.stm_desk.specs.DeskView.{state_of, labels_of};
-ghost use Rattle.stm_desk.specs.Checkpointed.{checkpoint_now, checkpointed};
-ghost use Rattle.stm_desk.specs.Reasons.{reason_of};
+ghost use Rattle.stm_desk.specs.Checkpointed.{checkpoint_now, checkpoint_refusal, HasBegunFrom};
 
 use crate::desk::Desk;
 use std::alloc::Global;
@@ -19,10 +17,8 @@ impl Desk {
     pub fn next_checkpoint(&self) -> Result<Checkpoint, CheckpointError>
         ensures taken { IfOk result (λ c. c ≡ checkpoint_now self.now) }
         ensures start { IfOk result (λ c. MayStart self.now.table (Some c)) }
-        // Refused if and only if tickets could run out in a history from here, or for lack of memory.
-        ensures room { OnOk result ((state_of self.now).next ≤ max_next) }
-        ensures full { IsErrOf result CheckpointError.TicketsFull → max_next < (state_of self.now).next }
-        ensures first { IsErrOf result CheckpointError.NoMemory → (state_of self.now).next ≤ max_next }
+        // Refused if tickets could run out in a history from here, or for lack of memory if they couldn't.
+        ensures refused { RefusedAs CheckpointError.NoMemory (checkpoint_refusal self.now) result }
     {
         // The variables are known to be well typed by this.
         let _variables = self.table.len();
@@ -47,19 +43,12 @@ impl Desk {
         checkpoint.with_causes(alloc, &causes)
     }
 
-    /// Lets the history begin from the checkpoint of the present state, and returns how many events it had. No answer to any later call
-    /// differs, except that the history has room for as many events as the desk takes. Queued tickets stay queued, and tickets that are
-    /// out stay out.
+    /// Lets the history begin from the checkpoint of the present state, and returns how many events it had. No answer about the present
+    /// differs. The history is empty, and has room for as many events as the desk takes. Queued tickets stay queued, and tickets that
+    /// are out stay out.
     pub fn begin_from(&mut self, checkpoint: Checkpoint) -> u32
         requires { checkpoint ≡ checkpoint_now self.old }
-        ensures events { result ≡ length self.old.history }
-        ensures taken { self.new ≡ checkpointed self.old }
-        // The same is observed of the state before and of the state after, so no later event or question tells them apart.
-        ensures unseen { observed (state_of self.new) ≡ observed (state_of self.old) }
-        // Each block has the label that it had.
-        ensures labels { (t : ℕ) → label_of t (labels_of self.new) ≡ label_of t (labels_of self.old) }
-        // Each block waits for what it waited for, for the same cause.
-        ensures reasons { (t : ℕ) → reason_of self.new t ≡ reason_of self.old t }
+        ensures { HasBegunFrom self.old self.new result }
     {
         // The variables are known to be well typed by this.
         let _variables = self.table.len();
@@ -74,15 +63,9 @@ impl Desk {
     /// Makes a checkpoint: from now on the history is empty, and begins from the present state, as after `begin_from`. Returns how many
     /// events it had.
     pub fn checkpoint(&mut self) -> Result<u32, CheckpointError>
-        ensures events { IfOk result (λ n. n ≡ length self.old.history) }
-        ensures taken { OnOk result (self.new ≡ checkpointed self.old) }
-        ensures unseen { OnOk result (observed (state_of self.new) ≡ observed (state_of self.old)) }
-        ensures labels { OnOk result ((t : ℕ) → label_of t (labels_of self.new) ≡ label_of t (labels_of self.old)) }
-        ensures reasons { OnOk result ((t : ℕ) → reason_of self.new t ≡ reason_of self.old t) }
-        // Refused if and only if tickets could run out in a history from here, or for lack of memory.
-        ensures room { OnOk result ((state_of self.old).next ≤ max_next) }
-        ensures full { IsErrOf result CheckpointError.TicketsFull → max_next < (state_of self.old).next }
-        ensures first { IsErrOf result CheckpointError.NoMemory → (state_of self.old).next ≤ max_next }
+        ensures begun { IfOk result (HasBegunFrom self.old self.new) }
+        // Refused if tickets could run out in a history from here, or for lack of memory if they couldn't.
+        ensures refused { RefusedAs CheckpointError.NoMemory (checkpoint_refusal self.old) result }
         ensures unchanged { OnErr result (self.new ≡ self.old) }
     {
         match self.next_checkpoint() {

@@ -1,4 +1,4 @@
-use Rattle.std.proofs.Common.{◌≡◌, List, [], Some, refl, sym, ap, subst, ◌∙◌}
+use Rattle.std.proofs.Common.{◌≡◌, List, [], Some, refl, rules, sym, ap, subst, ◌∙◌}
 use Rattle.stm_events.specs.declared.event.Event.{Event}
 use Rattle.stm_events.specs.Labels.{label_of, labels_from}
 use Rattle.stm_events.specs.SlowDesk.{state_from}
@@ -28,38 +28,29 @@ invariant_of-self c =
       labels_kept s labels d.labels (causes_of view) d.checkpoint d.history.items c.args.checkpoint c.self.invariant.1 refl (labels_wait d.table d.checkpoint d.history.items k.start k.legal.each) is,
     )
 
-pub returns-clause-unseen : goal.returns-clause-unseen
-returns-clause-unseen c =
+pub returns : goal.returns
+returns c =
     let k = c.self.invariant.0 in
     let d = c.self.inside in
     let view = view_of d in
     let s = state_of view in
     let labels = labels_of view in
     let is = checkpoint_of_fields c.self.view_is c.requires in
-    ap (λ (es : List Event). observed (state_from (checkpoint_state c.args.checkpoint) es)) c.take_events.ensures.none
-    ∙ unseen _ _ _ _ _ k c.len-variables.ensures.typed labels (causes_of view) c.args.checkpoint is c.next-next.ensures.checkpoint
-    ∙ ap (λ (x : DeskView). observed (state_of x)) c.self.view_is
-
-pub returns-clause-labels : goal.returns-clause-labels
-returns-clause-labels c = λ t.
-    let k = c.self.invariant.0 in
-    let d = c.self.inside in
-    let view = view_of d in
-    let s = state_of view in
-    let labels = labels_of view in
-    let is = checkpoint_of_fields c.self.view_is c.requires in
-    ap (λ (es : List Event). label_of t (labels_from (first_labels (Some c.args.checkpoint)) es)) c.take_events.ensures.none
-    ∙ ap (λ (x : CheckpointView). label_of t (first_labels (Some x))) is
-    ∙ labels_caused s labels (causes_of view) t (labels_wait d.table d.checkpoint d.history.items k.start k.legal.each)
-    ∙ ap (λ (x : DeskView). label_of t (labels_of x)) c.self.view_is
-
-pub returns-clause-reasons : goal.returns-clause-reasons
-returns-clause-reasons c = λ t.
-    let k = c.self.invariant.0 in
-    let d = c.self.inside in
-    let view = view_of d in
-    let is = checkpoint_of_fields c.self.view_is c.requires in
-    let stay = reasons_stay view k.start (typed_history _ _ _ _ _ k c.len-variables.ensures.typed) (subst IsCheckpoint is c.next-next.ensures.checkpoint) t in
-    ap (λ (es : List Event). reason_of (record view { checkpoint = Some c.args.checkpoint; history = es }) t) c.take_events.ensures.none
-    ∙ ap (λ (x : CheckpointView). reason_of (record view { checkpoint = Some x; history = [] }) t) is
-    ∙ stay ∙ ap (λ (x : DeskView). reason_of x t) c.self.view_is
+    record {
+      events = search rules;
+      taken = search rules;
+      unseen =
+          ap (λ (es : List Event). observed (state_from (checkpoint_state c.args.checkpoint) es)) c.take_events.ensures.none
+          ∙ unseen _ _ _ _ _ k c.len-variables.ensures.typed labels (causes_of view) c.args.checkpoint is c.next-next.ensures.checkpoint
+          ∙ ap (λ (x : DeskView). observed (state_of x)) c.self.view_is;
+      labels = λ t.
+          ap (λ (es : List Event). label_of t (labels_from (first_labels (Some c.args.checkpoint)) es)) c.take_events.ensures.none
+          ∙ ap (λ (x : CheckpointView). label_of t (first_labels (Some x))) is
+          ∙ labels_caused s labels (causes_of view) t (labels_wait d.table d.checkpoint d.history.items k.start k.legal.each)
+          ∙ ap (λ (x : DeskView). label_of t (labels_of x)) c.self.view_is;
+      reasons = λ t.
+          let stay = reasons_stay view k.start (typed_history _ _ _ _ _ k c.len-variables.ensures.typed) (subst IsCheckpoint is c.next-next.ensures.checkpoint) t in
+          ap (λ (es : List Event). reason_of (record view { checkpoint = Some c.args.checkpoint; history = es }) t) c.take_events.ensures.none
+          ∙ ap (λ (x : CheckpointView). reason_of (record view { checkpoint = Some x; history = [] }) t) is
+          ∙ stay ∙ ap (λ (x : DeskView). reason_of x t) c.self.view_is;
+    }

@@ -23,3 +23,6 @@ with_causes-requires c =
     c.in-Ok.ensures.taken s c.self.invariant.0.at
     ∙ same_checkpoint d.labels (labels_from (first_labels d.checkpoint) d.history.items) (checkpoint_of s) c.self.invariant.1.same
     ∙ ap (λ (x : DeskView). with_labels (labels_of x) (checkpoint_of (state_of x))) c.self.view_is
+
+pub returns-clause-refused : goal.returns-clause-refused
+returns-clause-refused c = c.todo
