@@ -1,9 +1,10 @@
--- What a reader has to believe: what contracts see of a desk, what each call is refused for, what settling does, and what a
--- waiting block waits for.
+-- What a reader has to believe: what contracts see of a desk, what each call is refused for, what is handed out, what settling does,
+-- and what a waiting block waits for.
 pub mod Checkpointed
 pub mod DeskView
 pub mod Evaluating
 pub mod Events
+pub mod HandedOut
 pub mod Reasons
 pub mod Refusals
 pub mod Settling

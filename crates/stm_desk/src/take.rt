@@ -1,11 +1,8 @@
 //! Work that is handed out, and comes back.
 
-ghost use Rattle.std.specs.Prelude.{◌≡◌, ◌≤◌, false, map, take, length, vec_len, IfOk, OnErr, is_some};
-ghost use Rattle.stm_store.specs.Cells.{plains};
-ghost use Rattle.stm_queue.specs.Queue.{queued, is_out, marked, first_queued};
-ghost use Rattle.stm_eval.specs.CoveredJobs.{AreJobsCovered};
-ghost use Rattle.stm_machine.specs.JobsHandedOut.{sent, AreJobs};
-ghost use Rattle.stm_desk.specs.DeskView.{state_of};
+ghost use Rattle.std.specs.Prelude.{◌≡◌, ◌≤◌, false, vec_len, IfOk, OnErr, is_some};
+ghost use Rattle.stm_queue.specs.Queue.{is_out, marked, first_queued};
+ghost use Rattle.stm_desk.specs.HandedOut.{HasHandedOut};
 
 use crate::desk::Desk;
 use stm_eval::Job;
@@ -16,14 +13,8 @@ impl Desk {
     /// The jobs of the n lowest queued tickets, or of all of them, which are out from then on, and an unchanging copy of the
     /// present store, which has their variables.
     pub fn take(&mut self, n: usize) -> Result<(Frozen, Vec<Job>), NoMemory>
-        ensures tickets { IfOk result (λ r. map (λ j. j.ticket) r.1.items
-            ≡ take n (queued self.old.pending)) }
-        ensures blocks { IfOk result (λ r. AreJobs (state_of self.old) r.1.items) }
-        ensures store { IfOk result (λ r. r.0 ≡ plains (state_of self.old).store) }
-        ensures covered { IfOk result (λ r. AreJobsCovered r.0 r.1.items) }
+        ensures taken { IfOk result (λ r. HasHandedOut n self.old self.new r.0 r.1.items) }
         ensures few { IfOk result (λ r. vec_len r.1 ≤ n) }
-        ensures out { IfOk result (λ r. self.new
-            ≡ record self.old { pending = sent (length r.1.items) self.old.pending }) }
         ensures unchanged { OnErr result (self.new ≡ self.old) }
     {
         self.machine.take(n)
