@@ -30,7 +30,7 @@ use Rattle.stm_events.specs.SlowAtomically.{atomically}
 use Rattle.stm_desk.specs.declared.atomic.Ran.{Ran}
 use Rattle.stm_desk.specs.declared.errors.AtomicError.{AtomicError}
 use Rattle.stm_desk.specs.declared.errors.AtomicError.TheVariants as atomic
-use Rattle.stm_desk.specs.Refusals.{submit_refusal, late_declare_refusal, atomic_refusal, cancel_refusal, label_refusal, finish_refusal}
+use Rattle.stm_desk.specs.Refusals.{IsAtomicError, submit_refusal, late_declare_refusal, atomic_refusal, cancel_refusal, label_refusal, finish_refusal}
 use Rattle.stm_desk.proofs.Calls.{accepted}
 use Rattle.stm_desk.proofs.Starts.{start_rule}
 use Rattle.stm_desk.specs.declared.finish.Finish.{Finish}
@@ -204,10 +204,18 @@ ran_ok d e js b ran old new (Ok x) p q n h =
     (ap (opened_as js) p, h ∙ ap (λ (t : List ℕ). old ++ t) (ran_last b ran.ticket ran.finish ∙ ap ran_text (sym q)))
 ran_ok d e js b ran old new (Err x) p q n h = tt
 
-pub ran_err : {A E : Type 0} → (d e : DeskView) (js : List HandedOut) (b : Block) (x : AtomicError) (old new : List ℕ) (r : Result A E) → e ≡ d → (x ≢ atomic.NoMemory → atomic_refusal d b ≡ Some x) → OnOk r (x ≢ atomic.NoMemory)
+-- an error that is due is the first reason that holds, unless memory ran out
+atomic_reason : (d : DeskView) (b : Block) (x : AtomicError) → IsAtomicError d b x → x ≢ atomic.NoMemory → atomic_refusal d b ≡ Some x
+atomic_reason d b (atomic.Foreign i) h n = h
+atomic_reason d b atomic.WaitingFull h n = h
+atomic_reason d b atomic.HistoryFull h n = h
+atomic_reason d b atomic.CellsFull h n = h
+atomic_reason d b atomic.NoMemory h n = absurd (n refl)
+
+pub ran_err : {A E : Type 0} → (d e : DeskView) (js : List HandedOut) (b : Block) (x : AtomicError) (old new : List ℕ) (r : Result A E) → e ≡ d → IsAtomicError d b x → OnOk r (x ≢ atomic.NoMemory)
     → OnOk r (new ≡ old ++ atomic_error_text x) → OnOk r (Steps (opened_as js e) old new (on_desk (opened_as js d) (atomically_block_step d b (atomic_refusal d b))))
 ran_err d e js b x old new (Ok y) p n t h =
-    subst (λ (o : Option AtomicError). Steps (opened_as js e) old new (on_desk (opened_as js d) (atomically_block_step d b o))) (sym (n t)) (ap (opened_as js) p, h)
+    subst (λ (o : Option AtomicError). Steps (opened_as js e) old new (on_desk (opened_as js d) (atomically_block_step d b o))) (sym (atomic_reason d b x n t)) (ap (opened_as js) p, h)
 ran_err d e js b x old new (Err y) p n t h = tt
 
 -- of a text that was compiled to this block

@@ -35,6 +35,7 @@ use Rattle.stm_desk.specs.declared.errors.SettleWhy.TheVariants.{HistoryFull, Ce
 use Rattle.stm_desk.specs.declared.finish.Finish.{Finish}
 use Rattle.stm_desk.specs.declared.settle.Settled.{Settled}
 use Rattle.stm_desk.specs.Events.{finish_of}
+use Rattle.stm_desk.specs.RunAtOnce.{HasRunAtOnce}
 use Rattle.stm_desk.specs.Settling.{with_whats, requeued_all, slow_run, HasHalted, RunsAs}
 use Rattle.stm_events.specs.SlowSettle.{Order}
 use Rattle.stm_commands.specs.declared.jobs.KeptJob.{KeptJob}
@@ -304,6 +305,11 @@ kept_run next d e copy ks r p start legal k = kept_without d e copy ks (run_grow
 ran_grown : (d e : DeskView) (b : Block) (r : Result Ran AtomicError) → OnOk r (e ≡ with_whats d 0 (atomically (state_of d) b)) → OnErr r (e ≡ d) → MayStart e.table e.checkpoint → IsLegalFrom (start_state e) e.history → HasGrown d e
 ran_grown d e b (Ok x) p q start legal = grown_by d e 0 (atomically (state_of d) b) p start legal
 ran_grown d e b (Err x) p q start legal = grown_same d e q start legal
+
+-- the events of what was run are those of the definition
+pub ran_grown_on : (d e : DeskView) (b : Block) (r : Result Ran AtomicError) → IfOk r (HasRunAtOnce 0 b d e) → OnOk r (e ≡ with_whats d 0 (atomically (state_of d) b))
+ran_grown_on d e b (Ok x) h = h.grown
+ran_grown_on d e b (Err x) h = tt
 
 pub kept_ran : {known : List Named} → (d e : DeskView) (copy : Option (List (Ty × Value))) (ks : List KeptJob) (b : Block) (r : Result Ran AtomicError)
     → OnOk r (e ≡ with_whats d 0 (atomically (state_of d) b)) → OnErr r (e ≡ d) → MayStart e.table e.checkpoint → IsLegalFrom (start_state e) e.history → OpenInvariant d copy ks known → OpenInvariant e None ks known

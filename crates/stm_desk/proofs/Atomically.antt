@@ -1,6 +1,6 @@
 -- Running a block atomically keeps the desk what its history makes.
 use Rattle.std.proofs.Common.{◌≡◌, ℕ, ◌+◌, ◌<◌, ◌≤◌, true, false, List, [], ◌∷◌, ◌++◌, map, length, Option, Some, refl, sym, ap, subst, ◌∙◌, arith, length-append, append_assoc}
-use Rattle.std.specs.Prelude.{nat_le, nat_lt}
+use Rattle.std.specs.Prelude.{◌≢◌, Bool, None, nat_le, nat_lt, Result, Ok, Err, IfErr}
 use Rattle.std.proofs.lemmas.Bool.Decides.{nat_tests}
 use Rattle.stm_terms.specs.declared.verdicts.Verdict.{Verdict}
 use Rattle.stm_terms.specs.declared.verdicts.Verdict.TheVariants.{Commits, Throws, Blocks}
@@ -13,10 +13,10 @@ use Rattle.stm_events.specs.declared.event.Event.{Event}
 use Rattle.stm_events.specs.declared.event.What.{What}
 use Rattle.stm_events.specs.declared.event.What.TheVariants.{Submitted, Installed, Finished}
 use Rattle.stm_events.specs.Laws.{SubmittedAreWellTyped}
-use Rattle.stm_events.specs.Refusals.{overflows}
+use Rattle.stm_events.specs.Refusals.{overflows, missing, submit_first, submit_refused}
 use Rattle.stm_events.specs.SlowAtomically.{atomically, AllowsEach}
 use Rattle.stm_events.specs.SlowDesk.{Slow, verdict_on, is_blocks, after, state_from, LegalFrom}
-use Rattle.stm_terms.specs.Limits.{max_clients}
+use Rattle.stm_terms.specs.Limits.{max_clients, max_waiting}
 use Rattle.stm_events.specs.SlowDrain.{after_all}
 use Rattle.stm_events.proofs.Folds.{state-append}
 use Rattle.stm_events.proofs.TypedStores.{submitted-append}
@@ -26,8 +26,11 @@ use Rattle.stm_machine.proofs.Calls.{next_absent}
 use Rattle.stm_machine.specs.Checkpoints.{CheckpointView, start_of}
 use Rattle.stm_machine.specs.Machine.{Parts, IsAt, event}
 use Rattle.stm_machine.specs.QueueAndIndex.{with_tickets}
-use Rattle.stm_desk.specs.DeskView.{DeskView, state_of}
+use Rattle.stm_desk.specs.declared.errors.AtomicError.{AtomicError}
+use Rattle.stm_desk.specs.declared.errors.AtomicError.TheVariants as atomic
+use Rattle.stm_desk.specs.DeskView.{DeskView, state_of, lacks_room}
 use Rattle.stm_desk.specs.Kept.{DeskInvariant}
+use Rattle.stm_desk.specs.Refusals.{atomic_first, atomic_refusal, atomic_refusal_before, IsAtomicError}
 use Rattle.stm_desk.specs.Settling.{with_whats}
 
 -- ---- the desk keeps what its history makes
@@ -120,3 +123,36 @@ blocks_is Blocks e = refl
 
 pub not_full : (limit n k : ℕ) → nat_lt limit (n + k) ≡ false → 0 < k → nat_le limit n ≡ false
 not_full limit n k e l = grind (arith, nat_tests)
+
+-- ---- which error comes
+-- a reason that holds is due, if it isn't that memory ran out
+pub is_reason : (d : DeskView) (b : Block) (e : AtomicError) → atomic_refusal d b ≡ Some e → e ≢ atomic.NoMemory → IsAtomicError d b e
+is_reason d b (atomic.Foreign i) h n = h
+is_reason d b atomic.WaitingFull h n = h
+is_reason d b atomic.HistoryFull h n = h
+is_reason d b atomic.CellsFull h n = h
+is_reason d b atomic.NoMemory h n = absurd (n refl)
+
+-- memory may run out once no reason shows
+is_due : (d : DeskView) (b : Block) (e : AtomicError) → atomic_refusal_before d b ≡ None → (e ≢ atomic.NoMemory → atomic_refusal d b ≡ Some e) → IsAtomicError d b e
+is_due d b (atomic.Foreign i) p h = h (λ q. cc)
+is_due d b atomic.WaitingFull p h = h (λ q. cc)
+is_due d b atomic.HistoryFull p h = h (λ q. cc)
+is_due d b atomic.CellsFull p h = h (λ q. cc)
+is_due d b atomic.NoMemory p h = p
+
+pub memory_is_due : (d : DeskView) (b : Block) (e : AtomicError) → e ≡ atomic.NoMemory → atomic_refusal_before d b ≡ None → IsAtomicError d b e
+memory_is_due d b e is p = subst (IsAtomicError d b) (sym is) p
+
+pub are_due : {A : Type 0} (d : DeskView) (b : Block) (r : Result A AtomicError) → atomic_refusal_before d b ≡ None → IfErr r (λ e. e ≢ atomic.NoMemory → atomic_refusal d b ≡ Some e) → IfErr r (IsAtomicError d b)
+are_due d b (Ok x) p h = tt
+are_due d b (Err e) p h = is_due d b e p h
+
+first_before : (o : Option ℕ) (many full : Bool) → submit_first o many false ≡ None → full ≡ false → atomic_first o many full false ≡ None
+first_before (Some i) many full m f = cc
+first_before None true full m f = cc
+first_before None false full m f = rw f refl
+
+-- nothing refuses it that shows before it is evaluated
+pub none_before : (d : DeskView) (b : Block) → submit_refused (state_of d) false b ≡ None → lacks_room d 2 ≡ false → atomic_refusal_before d b ≡ None
+none_before d b may room = first_before (missing (plains (state_of d).store) b.uses) (nat_le max_waiting (length (state_of d).waiters)) (lacks_room d 2) may room

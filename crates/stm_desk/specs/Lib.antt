@@ -7,6 +7,7 @@ pub mod Events
 pub mod HandedOut
 pub mod Reasons
 pub mod Refusals
+pub mod RunAtOnce
 pub mod Settling
 -- The words inside, for what a desk keeps, for its limit, for one step of settling, and for what is found of a reason or a cause.
 pub mod Causes

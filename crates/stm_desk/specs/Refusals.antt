@@ -1,5 +1,5 @@
 -- Why each call on a desk is refused: the first reason that holds. An out-of-memory error is reported only if none holds.
-use Rattle.std.specs.Prelude.{ℕ, Bool, false, if◌then◌else◌, nat_le, List, length, Option, Some, None, Result}
+use Rattle.std.specs.Prelude.{◌≡◌, ℕ, Bool, false, if◌then◌else◌, nat_le, List, length, Option, Some, None, Result}
 use Rattle.stm_terms.specs.declared.kinds.Ty.{Ty}
 use Rattle.stm_terms.specs.declared.values.Value.{Value}
 use Rattle.stm_terms.specs.declared.verdicts.Verdict.{Verdict}
@@ -78,3 +78,11 @@ abbrev pub atomic_refusal_before : DeskView → Block → Option AtomicError
 atomic_refusal_before d block =
     let s = state_of d in
     atomic_first (missing (plains s.store) block.uses) (nat_le max_waiting (length s.waiters)) (lacks_room d 2) false
+
+-- the error is due: the first reason that holds; or out of memory, if no reason holds that shows before the block is evaluated
+abbrev pub IsAtomicError : DeskView → Block → AtomicError → Type 0
+IsAtomicError d block (atomic.Foreign i) = atomic_refusal d block ≡ Some (atomic.Foreign i)
+IsAtomicError d block atomic.WaitingFull = atomic_refusal d block ≡ Some atomic.WaitingFull
+IsAtomicError d block atomic.HistoryFull = atomic_refusal d block ≡ Some atomic.HistoryFull
+IsAtomicError d block atomic.CellsFull = atomic_refusal d block ≡ Some atomic.CellsFull
+IsAtomicError d block atomic.NoMemory = atomic_refusal_before d block ≡ None

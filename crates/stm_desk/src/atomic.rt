@@ -1,7 +1,7 @@
 //! A transaction at once.
 
-ghost use Rattle.std.specs.Prelude.{◌≡◌, ◌≢◌, ◌+◌, ◌<◌, ◌≤◌, ◌++◌, ◌∷◌, [], true, false, None, Some, IfOk, OnOk, IfErr, OnErr, IsErrOf, IfSome, if◌then◌else◌, vec_len, vec_capacity};
-ghost use Rattle.stm_store.specs.Cells.{plains, Fits, applied_answer as told_of};
+ghost use Rattle.std.specs.Prelude.{◌≡◌, ◌≢◌, ◌+◌, ◌<◌, ◌≤◌, ◌++◌, ◌∷◌, [], true, false, None, Some, IfOk, OnOk, IfErr, OnErr, IfSome, if◌then◌else◌, vec_len, vec_capacity};
+ghost use Rattle.stm_store.specs.Cells.{plains, Fits, applied_answer};
 ghost use Rattle.stm_events.specs.Refusals.{overflows, submit_refused};
 ghost use Rattle.stm_events.specs.SlowAtomically.{atomically};
 ghost use Rattle.stm_events.specs.SlowDesk.{is_blocks, verdict_on};
@@ -11,7 +11,8 @@ ghost use Rattle.stm_machine.specs.Atomic.{IsVerdictOf};
 ghost use Rattle.stm_machine.specs.Machine.{event};
 ghost use Rattle.stm_desk.specs.DeskView.{state_of, lacks_room};
 ghost use Rattle.stm_desk.specs.Events.{whats_ran};
-ghost use Rattle.stm_desk.specs.Refusals.{atomic_refusal, atomic_refusal_before};
+ghost use Rattle.stm_desk.specs.Refusals.{atomic_refusal, atomic_refusal_before, IsAtomicError};
+ghost use Rattle.stm_desk.specs.RunAtOnce.{HasRunAtOnce};
 ghost use Rattle.stm_desk.specs.Settling.{with_whats};
 
 use crate::desk::Desk;
@@ -207,7 +208,7 @@ impl Desk {
             ≡ whats_ran block (record { ticket = r.0; finish = Some r.1 })) }
         ensures ticket { IfOk result (λ r. r.0 ≡ (state_of self.old).next) }
         ensures applied { IfOk result (λ r. r.1.applied
-            ≡ told_of (state_of self.old).store r.1.verdict) }
+            ≡ applied_answer (state_of self.old).store r.1.verdict) }
         ensures unchanged { OnErr result (self.new ≡ self.old) }
     {
         say_typed(&block);
@@ -241,7 +242,7 @@ impl Desk {
         ensures events { IfOk result (λ r. atomically (state_of self.old) block ≡ whats_ran block r) }
         ensures ticket { IfOk result (λ r. r.ticket ≡ (state_of self.old).next) }
         ensures applied { IfOk result (λ r. IfSome r.finish (λ f. f.applied
-            ≡ told_of (state_of self.old).store f.verdict)) }
+            ≡ applied_answer (state_of self.old).store f.verdict)) }
         ensures unchanged { OnErr result (self.new ≡ self.old) }
     {
         let verdict = SharedVerdict::new(*self.history.allocator(), verdict)?;
@@ -296,13 +297,7 @@ impl Desk {
         requires allowed { submit_refused (state_of self.old) false block ≡ None }
         requires room { lacks_room self.old 2 ≡ false }
         requires verdict { IsVerdictOf (state_of self.old) block verdict scratch.now }
-        ensures accepted { OnOk result (self.new
-            ≡ with_whats self.old client (atomically (state_of self.old) block)) }
-        ensures events { IfOk result (λ r. atomically (state_of self.old) block ≡ whats_ran block r) }
-        ensures ticket { IfOk result (λ r. r.ticket ≡ (state_of self.old).next) }
-        ensures applied { IfOk result (λ r. IfSome r.finish (λ f. f.applied
-            ≡ told_of (state_of self.old).store f.verdict)) }
-        ensures allowed { OnOk result (atomic_refusal self.old block ≡ None) }
+        ensures accepted { IfOk result (HasRunAtOnce client block self.old self.new) }
         ensures refused { IfErr result (λ e. e ≢ AtomicError.NoMemory
             → atomic_refusal self.old block ≡ Some e) }
         ensures unchanged { OnErr result (self.new ≡ self.old) }
@@ -319,19 +314,10 @@ impl Desk {
     /// The caller's number is below 128. A refusal changes nothing, not even the next ticket.
     pub fn atomically(&mut self, client: u32, block: SharedBlock) -> Result<Ran, AtomicError>
         requires { client < max_clients }
-        // Accepted: the events of the submission, the evaluation and, unless the block blocks, the finish, as the result says.
-        ensures accepted { OnOk result (self.new
-            ≡ with_whats self.old client (atomically (state_of self.old) block)) }
-        ensures events { IfOk result (λ r. atomically (state_of self.old) block ≡ whats_ran block r) }
-        ensures ticket { IfOk result (λ r. r.ticket ≡ (state_of self.old).next) }
-        ensures applied { IfOk result (λ r. IfSome r.finish (λ f. f.applied
-            ≡ told_of (state_of self.old).store f.verdict)) }
-        // Refused for the first reason that holds. An out-of-memory error may come before those that only the verdict shows.
-        ensures allowed { OnOk result (atomic_refusal self.old block ≡ None) }
-        ensures refused { IfErr result (λ e. e ≢ AtomicError.NoMemory
-            → atomic_refusal self.old block ≡ Some e) }
-        ensures memory { IsErrOf result AtomicError.NoMemory
-            → atomic_refusal_before self.old block ≡ None }
+        // Accepted: the block is submitted, evaluated and, unless it blocks, finished.
+        ensures accepted { IfOk result (HasRunAtOnce client block self.old self.new) }
+        // Refused for the first reason that holds. An out-of-memory error may come before the reasons that only the verdict shows.
+        ensures refused { IfErr result (IsAtomicError self.old block) }
         ensures unchanged { OnErr result (self.new ≡ self.old) }
     {
         match self.may_run(&block) {

@@ -2,7 +2,7 @@
 
 ghost use Rattle.std.specs.Prelude.{◌≡◌, ◌++◌, ◌∷◌, [], ◌<◌, false, IfOk, OnOk, OnErr, vec_len, vec_capacity};
 ghost use Rattle.stm_terms.specs.UnlessNoMemory.{RefusedAs};
-ghost use Rattle.stm_store.specs.Cells.{applied_answer as told_of};
+ghost use Rattle.stm_store.specs.Cells.{applied_answer};
 ghost use Rattle.stm_terms.specs.Limits.{max_clients};
 ghost use Rattle.stm_events.specs.declared.event.What.TheVariants.{Finished};
 ghost use Rattle.stm_events.specs.Labels.{AreSameLabels, without_label};
@@ -87,7 +87,7 @@ fn finish_parts(
     ensures moved { OnOk result (MovesBy
         (Finished ticket plan.now.verdict plan.now.first_new plan.now.stale)
         machine.old machine.new) }
-    ensures applied { IfOk result (λ a. a ≡ told_of machine.old.store plan.now.verdict) }
+    ensures applied { IfOk result (λ a. a ≡ applied_answer machine.old.store plan.now.verdict) }
     ensures pending { OnOk result (machine.new.pending
         ≡ with_tickets plan.now.stale machine.old.pending) }
     ensures labels { OnOk result (AreSameLabels labels.new (without_label ticket labels.old)) }
@@ -139,7 +139,7 @@ impl Desk {
             plan.now.verdict plan.now.first_new plan.now.stale }
         ensures accepted { OnOk result (self.new ≡ with_event self.old client
             (Finished ticket plan.now.verdict plan.now.first_new plan.now.stale)) }
-        ensures applied { IfOk result (λ a. a ≡ told_of (state_of self.old).store plan.now.verdict) }
+        ensures applied { IfOk result (λ a. a ≡ applied_answer (state_of self.old).store plan.now.verdict) }
         ensures unchanged { OnErr result (self.new ≡ self.old) }
     {
         let event = finished_event(&mut self.history, client, ticket, plan)?;
@@ -172,7 +172,7 @@ impl Desk {
         ensures noted { OnOk result (own.new.items
             ≡ own.old.items ++ event client
             (Finished ticket plan.now.verdict plan.now.first_new plan.now.stale) ∷ []) }
-        ensures applied { IfOk result (λ a. a ≡ told_of (state_of self.old).store plan.now.verdict) }
+        ensures applied { IfOk result (λ a. a ≡ applied_answer (state_of self.old).store plan.now.verdict) }
         ensures unchanged { OnErr result ((self.new ≡ self.old) × (own.new.items ≡ own.old.items)) }
     {
         let noted = finished_event(own, client, ticket, plan)?;
@@ -196,7 +196,7 @@ impl Desk {
             ≡ own.old.items ++ event client (finish_of ticket f) ∷ []) }
         ensures plan { IfOk result (λ f.
             IsPlan (state_of self.old) ticket f.verdict f.applied.first_new f.stale) }
-        ensures applied { IfOk result (λ f. f.applied ≡ told_of (state_of self.old).store f.verdict) }
+        ensures applied { IfOk result (λ f. f.applied ≡ applied_answer (state_of self.old).store f.verdict) }
         // Refused for the first reason that holds, or for lack of memory if none does.
         ensures refused { RefusedAs FinishError.NoMemory (finish_refusal self.old ticket) result }
         ensures unchanged { OnErr result ((self.new ≡ self.old) × (own.new.items ≡ own.old.items)) }
@@ -218,7 +218,7 @@ impl Desk {
         ensures accepted { IfOk result (λ f. self.new ≡ with_event self.old client (finish_of ticket f)) }
         ensures plan { IfOk result (λ f.
             IsPlan (state_of self.old) ticket f.verdict f.applied.first_new f.stale) }
-        ensures applied { IfOk result (λ f. f.applied ≡ told_of (state_of self.old).store f.verdict) }
+        ensures applied { IfOk result (λ f. f.applied ≡ applied_answer (state_of self.old).store f.verdict) }
         // Refused for the first reason that holds, or for lack of memory if none does.
         ensures refused { RefusedAs FinishError.NoMemory (finish_refusal self.old ticket) result }
         ensures unchanged { OnErr result (self.new ≡ self.old) }

@@ -1,6 +1,6 @@
 //! A message of an evaluator.
 
-ghost use Rattle.std.specs.Prelude.{◌≡◌, ◌<◌, false, IfOk, OnOk, IfErr, OnErr, IsTrue, ◌↔◌};
+ghost use Rattle.std.specs.Prelude.{◌≡◌, ◌<◌, IfOk, OnOk, IfErr, OnErr, IsTrue, ◌↔◌};
 ghost use Rattle.stm_terms.specs.Value.{same_value};
 ghost use Rattle.stm_watch.specs.Pairs.{WithReads};
 ghost use Rattle.stm_queue.specs.Queue.{without_ticket};
