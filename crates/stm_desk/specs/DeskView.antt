@@ -1,5 +1,5 @@
 -- What contracts see of a desk: all else follows from it.
-use Rattle.std.specs.Prelude.{◌≡◌, ℕ, ◌+◌, Bool, true, nat_le, nat_lt, List, [], ◌∷◌, ◌++◌, length, Option, Some, option_map, is_some}
+use Rattle.std.specs.Prelude.{◌≡◌, ℕ, ◌+◌, Bool, true, false, nat_le, nat_lt, List, [], ◌∷◌, ◌++◌, length, Option, Some, option_map, is_some}
 use Rattle.stm_store.specs.Tables.{Declared}
 use Rattle.stm_queue.specs.Queue.{Entry, has_ticket, with_ticket, without_ticket}
 use Rattle.stm_events.specs.declared.event.Event.{Event}
@@ -12,6 +12,7 @@ use Rattle.stm_events.specs.Rounds.{a_round}
 use Rattle.stm_machine.specs.Checkpoints.{CheckpointView, start_of, first_labels}
 use Rattle.stm_machine.specs.Machine.{event}
 use Rattle.stm_machine.specs.QueueAndIndex.{due_of, with_tickets}
+use Rattle.stm_machine.specs.SettleChoices.{some_out}
 
 -- the table that it was opened on, the checkpoint that its history begins from, if it begins from one, how many events it takes, its
 -- history, and the tickets that are queued or out
@@ -62,6 +63,21 @@ lacks_room d n = nat_lt d.limit (length d.history + n)
 -- each ticket of a new or stale block is queued or out, and no other is
 abbrev pub DeskQueueIsRight : DeskView → Type 0
 DeskQueueIsRight d = (t : ℕ) → has_ticket t d.pending ≡ due_of (find_waiter t (state_of d).waiters)
+
+-- a desk that goes on from a history, whose variables, checkpoint and events are given, with the number of events that it takes
+pub record IsResumed (variables : List Declared) (begun : Option CheckpointView) (events : List Event) (most : ℕ) (d : DeskView) : Type 0 where
+  -- its table has the variables
+  pub table : d.table ≡ variables
+  -- its history begins from the checkpoint
+  pub checkpoint : d.checkpoint ≡ begun
+  -- it takes this many events
+  pub limit : d.limit ≡ most
+  -- the events are its history
+  pub history : d.history ≡ events
+  -- each new and each stale block is queued
+  pub queue : DeskQueueIsRight d
+  -- no ticket is out
+  pub none_out : some_out d.pending ≡ false
 
 -- each waiting block has a verdict on the present store
 abbrev pub AllHaveVerdicts : Slow → Type 0

@@ -1,6 +1,6 @@
 //! A desk that goes on from where a history ends.
 
-ghost use Rattle.std.specs.Prelude.{◌≡◌, ◌≤◌, ◌↔◌, false, length, IsOk, IfOk};
+ghost use Rattle.std.specs.Prelude.{◌≤◌, ◌↔◌, length, IsOk, IfOk};
 ghost use Rattle.stm_events.specs.Labels.{AreSameLabels, labels_from};
 ghost use Rattle.stm_events.specs.Laws.{SubmittedAreWellTyped};
 ghost use Rattle.stm_events.specs.SlowDesk.{state_from};
@@ -8,8 +8,7 @@ ghost use Rattle.stm_terms.specs.Limits.{max_events as most_events};
 ghost use Rattle.stm_events.specs.States.{IsLegalFrom};
 ghost use Rattle.stm_machine.specs.Checkpoints.{start_of, first_labels, MayStart};
 ghost use Rattle.stm_machine.specs.Machine.{IsAt};
-ghost use Rattle.stm_machine.specs.SettleChoices.{some_out};
-ghost use Rattle.stm_desk.specs.DeskView.{DeskQueueIsRight};
+ghost use Rattle.stm_desk.specs.DeskView.{IsResumed};
 
 use crate::desk::Desk;
 use crate::past::Past;
@@ -46,12 +45,7 @@ impl Desk {
         requires labels { AreSameLabels labels (labels_from (first_labels checkpoint) events.items) }
         requires small { max_events ≤ most_events }
         ensures fits { IsOk result ↔ (length events.items ≤ max_events) }
-        ensures table { IfOk result (λ d. d.table ≡ table) }
-        ensures checkpoint { IfOk result (λ d. d.checkpoint ≡ checkpoint) }
-        ensures limit { IfOk result (λ d. d.limit ≡ max_events) }
-        ensures history { IfOk result (λ d. d.history ≡ events.items) }
-        ensures queue { IfOk result (λ d. DeskQueueIsRight d) }
-        ensures none_out { IfOk result (λ d. some_out d.pending ≡ false) }
+        ensures resumed { IfOk result (IsResumed table checkpoint events.items max_events) }
     {
         if events.len() > max_events as usize {
             return Err(TooManyEvents);
@@ -75,12 +69,7 @@ impl Desk {
         requires labels { AreSameLabels labels (labels_from (first_labels checkpoint) events.items) }
         requires small { max_events ≤ most_events }
         requires few { length events.items ≤ max_events }
-        ensures table { result.table ≡ table }
-        ensures checkpoint { result.checkpoint ≡ checkpoint }
-        ensures limit { result.limit ≡ max_events }
-        ensures history { result.history ≡ events.items }
-        ensures queue { DeskQueueIsRight result }
-        ensures none_out { some_out result.pending ≡ false }
+        ensures { IsResumed table checkpoint events.items max_events result }
     {
         machine.recall();
         let past = Past::none(*events.allocator());

@@ -12,5 +12,5 @@ returns c =
     let parts = c.into_parts-table.ensures in
     let h = c.history-history.ensures in
     subst (λ (d : DeskView). IfOk c.resume-in-Ok.result (λ x. x ≡ Open (record { desk = d; jobs = [] })))
-    (resumed_is c.in-Ok.desk c.args.loaded.table c.args.loaded.checkpoint c.args.limit c.args.loaded.events.items (c.in-Ok.ensures.table ∙ parts.table) (c.in-Ok.ensures.checkpoint ∙ parts.checkpoint) c.in-Ok.ensures.limit
-    (c.in-Ok.ensures.history ∙ ap (λ (v : Vec Event Global). v.items) parts.events) h.start h.legal h.rising h.queue c.in-Ok.ensures.none_out) c.resume-in-Ok.ensures
+    (resumed_is c.in-Ok.desk c.args.loaded.table c.args.loaded.checkpoint c.args.limit c.args.loaded.events.items (c.in-Ok.ensures.resumed.table ∙ parts.table) (c.in-Ok.ensures.resumed.checkpoint ∙ parts.checkpoint) c.in-Ok.ensures.resumed.limit
+    (c.in-Ok.ensures.resumed.history ∙ ap (λ (v : Vec Event Global). v.items) parts.events) h.start h.legal h.rising h.queue c.in-Ok.ensures.resumed.none_out) c.resume-in-Ok.ensures

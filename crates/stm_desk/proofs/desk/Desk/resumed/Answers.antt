@@ -1,4 +1,4 @@
-use Rattle.std.proofs.Common.{◌∙◌, [], ap}
+use Rattle.std.proofs.Common.{◌∙◌, [], refl, ap}
 use Rattle.stm_events.specs.SlowDesk.{state_from}
 use Rattle.stm_machine.specs.Checkpoints.{start_of}
 use Rattle.stm_machine.specs.Machine.{Parts}
@@ -21,10 +21,14 @@ invariant_of-desk c = (
   labels_begin c.args.table c.args.checkpoint c.args.events.items c.args.labels c.requires.start c.requires.legal.each c.requires.labels,
 )
 
-pub returns-clause-queue : goal.returns-clause-queue
-returns-clause-queue c = (c.recall.ensures.kept (state_from (start_of c.args.table c.args.checkpoint) c.args.events.items) c.requires.at).stands.queue
-
-pub returns-clause-none_out : goal.returns-clause-none_out
-returns-clause-none_out c =
+pub returns : goal.returns
+returns c =
     let before : DeskView = record { table = c.args.table; checkpoint = c.args.checkpoint; limit = 0; history = []; pending = c.args.machine.pending } in
-    ap (λ (m : Parts). some_out m.pending) c.recall.ensures.recalled ∙ out_back before
+    record {
+      table = refl;
+      checkpoint = refl;
+      limit = refl;
+      history = refl;
+      queue = (c.recall.ensures.kept (state_from (start_of c.args.table c.args.checkpoint) c.args.events.items) c.requires.at).stands.queue;
+      none_out = ap (λ (m : Parts). some_out m.pending) c.recall.ensures.recalled ∙ out_back before;
+    }
