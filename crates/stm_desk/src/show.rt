@@ -1,19 +1,19 @@
 //! What a desk shows.
 
-ghost use Rattle.std.specs.Prelude.{◌≡◌, ◌≤◌, nat_lt, true, None, Some, length, option_map, slice_get};
+ghost use Rattle.std.specs.Prelude.{◌≡◌, ◌≤◌, nat_lt, None, length, option_map, slice_get};
 ghost use Rattle.std.specs.Option.{option_copied};
-ghost use Rattle.stm_events.specs.SlowDesk.{Waiter, is_current, find_waiter, serial, serial_steps_from};
+ghost use Rattle.stm_events.specs.SlowDesk.{find_waiter, serial, serial_steps_from};
 ghost use Rattle.stm_events.specs.States.{IsLegalFrom};
 ghost use Rattle.stm_events.specs.Ready.{next_ready};
 ghost use Rattle.stm_events.specs.SlowSettle.{lowest};
-ghost use Rattle.stm_events.specs.BlockStatus.{shown, read_then, read_now};
+ghost use Rattle.stm_events.specs.BlockStatus.{shown, read_then};
 ghost use Rattle.stm_machine.specs.JobsHandedOut.{block_at};
 ghost use Rattle.stm_events.specs.Headline.{HeadlineHoldsBy};
 ghost use Rattle.stm_events.specs.HeadlineFrom.{HeadlineHoldsFrom};
 ghost use Rattle.stm_machine.specs.Checkpoints.{MayStart};
 ghost use Rattle.stm_queue.specs.Queue.{queued, tickets};
 ghost use Rattle.stm_queue.specs.SortedTickets.{IsRising};
-ghost use Rattle.stm_desk.specs.DeskView.{start_state, state_of, standing_of, DeskQueueIsRight, AllHaveVerdicts, SettlesInRounds};
+ghost use Rattle.stm_desk.specs.DeskView.{start_state, state_of, standing_of, AreReadNow, DeskQueueIsRight, AllHaveVerdicts, SettlesInRounds};
 
 use crate::desk::Desk;
 use stm_check::SharedBlock;
@@ -35,8 +35,7 @@ impl Desk {
     pub fn reads(&self, ticket: u32) -> Option<&[(u32, Value)]>
         ensures then { option_copied result
             ≡ read_then (find_waiter ticket (state_of self.now).waiters) }
-        ensures present { (w : Waiter) → find_waiter ticket (state_of self.now).waiters ≡ Some w
-            → is_current w ≡ true → option_copied result ≡ Some (read_now (state_of self.now).store w) }
+        ensures present { AreReadNow (state_of self.now) ticket (option_copied result) }
     {
         self.machine.reads(ticket)
     }
