@@ -79,18 +79,24 @@ impl Desk {
         &self.table
     }
 
-    /// The events so far. What holds of every desk stands here.
+    /// The events so far. What holds of every desk is said here.
     pub fn history(&self) -> &[Event]
         ensures history { result.now ≡ self.now.history }
+        // It begins where a history may: with the first values of the table's variables, or from the checkpoint.
         ensures start { MayStart self.now.table self.now.checkpoint }
+        // It is legal from there, and has no more events than the desk takes.
         ensures legal { IsLegalFrom (start_state self.now) self.now.history }
         ensures few { length self.now.history ≤ self.now.limit }
+        // Each ticket of a new or stale block is queued or out, and no other is; the tickets ascend.
         ensures queue { DeskQueueIsRight self.now }
         ensures rising { IsRising (tickets self.now.pending) }
+        // Each waiting block has a verdict on the present store.
         ensures verdicts { AllHaveVerdicts (state_of self.now) }
+        // Settling begins with a round, however much room there is.
         ensures rounds { SettlesInRounds (state_of self.now) }
+        // The headline holds of the history, from where it begins.
         ensures headline { HeadlineHoldsFrom (start_state self.now) self.now.history }
-        // The same in the words of a history that begins with the first values of the variables.
+        // If it begins with the first values of the variables, the headline holds in the words for that.
         ensures from_variables { self.now.checkpoint ≡ None
             → HeadlineHoldsBy StalenessRule.Changed self.now.table self.now.history }
     {
