@@ -351,6 +351,15 @@ pub record IsResumable (h : Loaded) : Type 0 where
   -- each block that is submitted in it is well typed
   pub typed : SubmittedAreWellTyped h.events.items
 
+-- A file was opened, and this was loaded of it.
+pub record IsOpened {D : Type 0} (disk : Disk D) (f : HistoryFile D) (loaded : Option Loaded) : Type 0 where
+  -- a desk can go on from what was loaded
+  pub resumable : IfSome loaded IsResumable
+  -- the file has exactly this history, or nothing yet, and more can be recorded after it
+  pub kept : HasLoaded disk f loaded
+  -- in the format of what was loaded, or in one for a new history
+  pub format : IsFormatOf f.format loaded
+
 -- The file of this device was opened, to be synced in this mode.
 pub record OpensAs {D : Type 0} (disk : Disk D) (device : D) (mode : SyncMode) (r : Opened D) : Type 0 where
   -- a desk can go on from what was loaded, whatever the device is

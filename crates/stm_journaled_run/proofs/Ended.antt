@@ -32,7 +32,7 @@ use Rattle.stm_run.proofs.EventsOfConsole.{grows_not}
 use Rattle.stm_journaled_run.specs.declared.fault.DurableFault.{DurableFault}
 use Rattle.stm_journaled_run.specs.declared.fault.DurableFault.TheVariants.{Run, Journal}
 use Rattle.stm_journaled_run.specs.DurableRun.{resumed_console, HasFormat, KeepsConsole, ConsoleKept, IsNoJournalFault, HasCommitted, LeavesBetween, CoversAnswers, RunsUnlessDisk}
-use Rattle.stm_journaled_run.specs.WholeRun.{RunView, AnswersInPart, AnswersWholeLines, RunFails}
+use Rattle.stm_journaled_run.specs.WholeRun.{RunView, AnswersAllLines, AnswersInPart, AnswersWholeLines, RunFails, WritesRunOn}
 use Rattle.stm_journaled_run.specs.NewEvents.{AreTexts, IsOfItsText, MayBeginRun, needs_declaring_format}
 use Rattle.stm_journaled_run.specs.Committing.{HasFinished, HasFailed, LeavesRun}
 use Rattle.stm_journaled_run.proofs.Committing.{answers_append}
@@ -209,6 +209,12 @@ pub run_failed : {D : Type 0} (disk : Disk D) (run : RunView) (r : Result Unit D
 run_failed disk run (Ok x) part whole cause = tt
 run_failed disk run (Err e) part whole cause =
     record { part = part; whole = λ is. whole (ap (λ (x : DurableFault). Err x) is); cause = cause }
+
+-- what a run has written, by its result
+pub written_on : {D : Type 0} (disk : Disk D) (f : HistoryFile D) (run : RunView) (r : Result Unit DurableFault)
+    → OnOk r (AnswersAllLines disk f run) → IfErr r (RunFails disk run) → WritesRunOn disk f run r
+written_on disk f run (Ok x) all fails = all
+written_on disk f run (Err e) all fails = fails
 
 -- a crash at any moment
 pub leaves_input : {D : Type 0} (Cause : Type 0) (disk : Disk D) (old new : D) (sync : SyncMode) (zeros : Bool) (every : ℕ) (s : Console) (input : Option (List ℕ))

@@ -1,5 +1,5 @@
 -- A whole run whose history is kept in a file: what it has written when it ends, what the file has then, and what a crash leaves.
-use Rattle.std.specs.Prelude.{◌≡◌, ℕ, IsTrue, List, [], ◌++◌, Option, Some, IfSome, Result}
+use Rattle.std.specs.Prelude.{◌≡◌, ℕ, IsTrue, List, [], ◌++◌, Option, Some, IfSome, Result, Ok, Err}
 use Rattle.std.specs.Io.KnownBytes.{Appends}
 use Rattle.stm_history.specs.declared.loading.Loaded.{Loaded}
 use Rattle.stm_lines.specs.WrittenFronts.{WritesFront}
@@ -100,3 +100,16 @@ pub record KeepsRun {D : Type 0} (disk : Disk D) (old new : HistoryFile D) (run 
   pub any_moment : RunLeaves disk old new run
   -- it is synced as before
   pub sync : new.journal.sync ≡ old.journal.sync
+
+-- ---- how the run ends
+-- what was written, by the result: the answers to all lines, or after an error a front of them
+abbrev pub WritesRunOn : {D : Type 0} → Disk D → HistoryFile D → RunView → Result (Unit {0}) DurableFault → Type 0
+WritesRunOn disk f run (Ok done) = AnswersAllLines disk f run
+WritesRunOn disk f run (Err e) = RunFails disk run e
+
+-- The run has ended with this result.
+pub record EndsRun {D : Type 0} (disk : Disk D) (old new : HistoryFile D) (run : RunView) (result : Result (Unit {0}) DurableFault) : Type 0 where
+  -- what was written, and that the file has all of it, if nothing failed
+  pub written : WritesRunOn disk new run result
+  -- what the file has, and what a crash leaves of it, whatever the result is
+  pub file : KeepsRun disk old new run result

@@ -1,13 +1,13 @@
 //! From the bytes of a reader to the bytes of a writer, with the events in a file.
 
 ghost use Rattle.std.specs.Prelude.{◌≡◌, ◌≢◌, ◌+◌, ◌<◌, ◌≤◌, [], true, ℕ, Ok, length, string_bytes, OnOk, IfOk, IfErr, IfSome, IsErrOf};
-ghost use Rattle.stm_history_file.specs.Durable.{HasLoaded, IsFormatOf, IsResumable};
+ghost use Rattle.stm_history_file.specs.Durable.{IsOpened, IsResumable};
 ghost use Rattle.stm_lines.specs.TakenLines.{bytes_to_come};
 ghost use Rattle.stm_lines.specs.Unread.{unread};
 ghost use Rattle.stm_options.specs.Options.{AreRunOptions};
 ghost use Rattle.stm_run.specs.ConsoleState.{events_of};
 ghost use Rattle.stm_journaled_run.specs.DurableRun.{RunsUnlessDisk, RefusalCause, resumed_console};
-ghost use Rattle.stm_journaled_run.specs.WholeRun.{AnswersAllLines, RunFails, KeepsRun, run_view};
+ghost use Rattle.stm_journaled_run.specs.WholeRun.{EndsRun, run_view};
 ghost use Rattle.stm_journaled_run.specs.Committing.{FailsOver, WholeLinesAnswered};
 ghost use Rattle.stm_journaled_run.specs.GoingOn.{AnswersNext, FailsAfterLines, FailsUnderWay, FinishesOver, InputLeaves, IsBetweenLines, IsFresh, IsUnderWay, LinesLeave, NextLeaves, StaysAfterLines, WritesWhole, run_at};
 
@@ -234,18 +234,10 @@ pub fn run_durable<T: Threads + RandomSource + Sync, R: Read, W: Write, D: Repla
 ) -> Result<(), DurableFault>
     requires options { AreRunOptions options }
     // As `open_history` returns them.
-    requires resumable { IfSome loaded IsResumable }
-    requires kept { HasLoaded D.disk file.old loaded }
-    requires format { IsFormatOf file.old.format loaded }
+    requires opened { IsOpened D.disk file.old loaded }
     requires fits { IfSome loaded (λ h. length h.events.items ≤ options.max_events) }
-    // The answers to all lines were written, and the file has exactly the history of all lines.
-    ensures answered { OnOk result (AnswersAllLines D.disk file.new (run_view options loaded
-        (R.remaining reader.old) (R.remaining reader.new) (W.contents writer.old) (W.contents writer.new))) }
-    // Otherwise a front of the answers was written.
-    ensures failed { IfErr result (RunFails D.disk (run_view options loaded
-        (R.remaining reader.old) (R.remaining reader.new) (W.contents writer.old) (W.contents writer.new))) }
-    // Whatever the result, a crash now, and one at any moment of the run, leaves a file that covers what was written.
-    ensures file { KeepsRun D.disk file.old file.new (run_view options loaded
+    // What was written, and what the file has: a crash now, and one at any moment of the run, leaves a file that covers what was written.
+    ensures { EndsRun D.disk file.old file.new (run_view options loaded
         (R.remaining reader.old) (R.remaining reader.new) (W.contents writer.old) (W.contents writer.new)) result }
 {
     match resumed_session(rt, alloc, loaded, options) {

@@ -8,17 +8,7 @@ mapped_ok : {T E F : Type 0} (r : Result T E) (s : Result T F) (x : T) (P : T �
 mapped_ok (Ok y) s x P Q is was p = let same : y ≡ x = cc (is, was) in subst P same p
 mapped_ok (Err e) s x P Q is was p = absurd (subst (λ o. IsErrAnd o (Q e)) was is)
 
-pub run_durable-requires-clause-resumable : goal.run_durable-requires-clause-resumable
-run_durable-requires-clause-resumable g c κs within =
+pub run_durable-requires-clause-opened : goal.run_durable-requires-clause-opened
+run_durable-requires-clause-opened g c κs within =
     let opened : OpensAs _ _ _ c.in_ok-file.field-0 = mapped_ok c.open_history.result c.map_err.result c.in_ok-file.field-0 (OpensAs _ _ _) _ c.map_err.ensures.cases c.in_ok-file.was c.open_history.ensures.opened in
-    opened.resumable
-
-pub run_durable-requires-clause-kept : goal.run_durable-requires-clause-kept
-run_durable-requires-clause-kept g c κs within =
-    let opened : OpensAs _ _ _ c.in_ok-file.field-0 = mapped_ok c.open_history.result c.map_err.result c.in_ok-file.field-0 (OpensAs _ _ _) _ c.map_err.ensures.cases c.in_ok-file.was c.open_history.ensures.opened in
-    λ honest. opened.kept (λ h. refl) honest
-
-pub run_durable-requires-clause-format : goal.run_durable-requires-clause-format
-run_durable-requires-clause-format g c κs within =
-    let opened : OpensAs _ _ _ c.in_ok-file.field-0 = mapped_ok c.open_history.result c.map_err.result c.in_ok-file.field-0 (OpensAs _ _ _) _ c.map_err.ensures.cases c.in_ok-file.was c.open_history.ensures.opened in
-    opened.format
+    record { resumable = opened.resumable; kept = λ honest. opened.kept (λ h. refl) honest; format = opened.format }
