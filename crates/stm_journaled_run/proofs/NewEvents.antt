@@ -34,7 +34,7 @@ use Rattle.stm_commands.specs.OpenDesk.{OpenDesk}
 use Rattle.stm_run.specs.declared.console.Console.{Console}
 use Rattle.stm_run.specs.declared.console.Console.TheVariants.{Declaring, Open}
 use Rattle.stm_run.specs.ConsoleState.{table_of, checkpoint_of_console, events_of}
-use Rattle.stm_run.specs.Fitting.{IsOfText, AreOfConsole, AreOfTheirTexts, AreNumbersSmall, AreVerdictsInRange, HaveSmallNumbers, IsVerdictInRange, WaitAsTheirTexts, WaitersAreOfText, VariablesFit}
+use Rattle.stm_run.specs.Fitting.{IsOfText, AreOfTexts, AreOfTheirTexts, AreNumbersSmall, AreVerdictsInRange, HaveSmallNumbers, IsVerdictInRange, WaitAsTheirTexts, WaitersAreOfText, VariablesFit}
 use Rattle.stm_run.specs.Growing.{Grows}
 use Rattle.stm_run.proofs.EventsOfConsole.{start_texts, texts_after, checkpoint_texts}
 use Rattle.stm_run.proofs.FitTables.{table_sound}
@@ -70,7 +70,7 @@ its_text known (Cancelled t) h = tt
 its_text known (DeclaredLate name kind value) h = tt
 its_text known (Labelled t label) h = tt
 
-of_console_texts : (s : Slow) (es : List Event) → AreOfConsole s es → AreTexts s es
+of_console_texts : (s : Slow) (es : List Event) → AreOfTexts s es → AreTexts s es
 of_console_texts s [] h = tt
 of_console_texts s (e ∷ es) h = (its_text s.names e.what h.1, of_console_texts (after s e.what) es h.2)
 

@@ -67,7 +67,7 @@ use Rattle.stm_run.specs.declared.console.Console.TheVariants.{Declaring, Open}
 use Rattle.stm_run.specs.Console.{command_named, state_after, initial_console, desk_step, on_console, command_step, word_step, class_step, step}
 use Rattle.stm_run.specs.ConsoleState.{present_desk, table_of, checkpoint_of_console, events_of, with_checkpoint}
 use Rattle.stm_run.specs.Declaring.{tvar_text_step, tvar_step}
-use Rattle.stm_run.specs.Fitting.{IsOfText, AreOfConsole, IsOfConsole, EventsAreOfConsole, AreOfTheirTexts, WaitersAreOfText, WaitAsTheirTexts, WaitingStayOfText, VariablesFit, VariablesFitLines, VariablesStayFit}
+use Rattle.stm_run.specs.Fitting.{IsOfText, AreOfTexts, IsOfTexts, EventsAreOfConsole, AreOfTheirTexts, WaitersAreOfText, WaitAsTheirTexts, WaitingStayOfText, VariablesFit, VariablesFitLines, VariablesStayFit}
 use Rattle.stm_run.specs.Growing.{Grows, ConsolesGrow}
 use Rattle.stm_run.specs.AfterLines.{state_after_lines}
 use Rattle.stm_run.specs.LineCheckpoints.{command_checkpoints, word_checkpoints, class_checkpoints, line_checkpoints}
@@ -104,7 +104,7 @@ later_text : (few more : List Named) (block : Block) → compiled_block few bloc
 later_text few more block e = checked_blocks_stay few more block.text block e
 
 -- ---- one event more
-event_more : (s : Slow) (es : List Event) (what : What) → AreOfConsole s es → IsOfText (state_from s es).names what → AreOfConsole s (es ++ event 0 what ∷ [])
+event_more : (s : Slow) (es : List Event) (what : What) → AreOfTexts s es → IsOfText (state_from s es).names what → AreOfTexts s (es ++ event 0 what ∷ [])
 event_more s [] what h k = (refl, k, tt)
 event_more s (e ∷ es) what h k = (h.0, h.1, event_more (after s e.what) es what h.2 k)
 
@@ -116,7 +116,7 @@ pub record Added
   pub same_start : start ≡ checkpoint
   pub added : List Event
   pub events : history ≡ before ++ added
-  pub of_console : AreOfConsole (state_from (start_of table checkpoint) before) added
+  pub of_console : AreOfTexts (state_from (start_of table checkpoint) before) added
 
 -- ---- settling
 -- nothing is submitted, declared or labelled
@@ -345,17 +345,17 @@ opens s d a = record {
   added = a.added;
   events = a.events;
   of_console =
-      subst (λ (o : Option CheckpointView). AreOfConsole (state_from (start_of d.desk.table o) (events_of s)) a.added) (sym a.same_start)
-      (subst (λ (t : List Declared). AreOfConsole (state_from (start_of t (checkpoint_of_console s)) (events_of s)) a.added) (sym a.same_table) a.of_console);
+      subst (λ (o : Option CheckpointView). AreOfTexts (state_from (start_of d.desk.table o) (events_of s)) a.added) (sym a.same_start)
+      (subst (λ (t : List Declared). AreOfTexts (state_from (start_of t (checkpoint_of_console s)) (events_of s)) a.added) (sym a.same_table) a.of_console);
   same_start = a.same_start;
   opened = λ e. (refl, a.same_table);
 }
 
-of_append : (s : Slow) (xs ys : List Event) → AreOfConsole s xs → AreOfConsole (state_from s xs) ys → AreOfConsole s (xs ++ ys)
+of_append : (s : Slow) (xs ys : List Event) → AreOfTexts s xs → AreOfTexts (state_from s xs) ys → AreOfTexts s (xs ++ ys)
 of_append s [] ys h k = k
 of_append s (x ∷ xs) ys h k = (h.0, h.1, of_append (after s x.what) xs ys h.2 k)
 
-of_none : (s : Slow) (xs ys : List Event) → [] ≡ xs ++ ys → AreOfConsole s ys
+of_none : (s : Slow) (xs ys : List Event) → [] ≡ xs ++ ys → AreOfTexts s ys
 of_none s [] [] e = tt
 of_none s [] (y ∷ ys) e = absurd (cc e)
 of_none s (x ∷ xs) ys e = absurd (cc e)
@@ -370,14 +370,14 @@ same_first d t g =
     ap (λ (x : List Declared). start_of x (checkpoint_of_console t)) (g.opened refl).1 ∙ ap (start_of d.desk.table) g.same_start
 
 -- what was added first is of the console over the last table, too: before the desk is open there is no event
-added_first : (s t u : Console) (g : Grows s t) → Grows t u → AreOfConsole (state_from (first_of u) (events_of s)) g.added
-added_first s (Open d) u g h = subst (λ (x : Slow). AreOfConsole (state_from x (events_of s)) g.added) (sym (same_first d u h)) g.of_console
+added_first : (s t u : Console) (g : Grows s t) → Grows t u → AreOfTexts (state_from (first_of u) (events_of s)) g.added
+added_first s (Open d) u g h = subst (λ (x : Slow). AreOfTexts (state_from x (events_of s)) g.added) (sym (same_first d u h)) g.of_console
 added_first s (Declaring table limit) u g h = of_none (state_from (first_of u) (events_of s)) (events_of s) g.added g.events
 
 -- and what came after it goes on from there
-added_then : (s t u : Console) (g : Grows s t) (h : Grows t u) → AreOfConsole (state_from (state_from (first_of u) (events_of s)) g.added) h.added
+added_then : (s t u : Console) (g : Grows s t) (h : Grows t u) → AreOfTexts (state_from (state_from (first_of u) (events_of s)) g.added) h.added
 added_then s t u g h =
-    subst (λ (x : Slow). AreOfConsole x h.added) (ap (state_from (first_of u)) g.events ∙ state-append (first_of u) (events_of s) g.added) h.of_console
+    subst (λ (x : Slow). AreOfTexts x h.added) (ap (state_from (first_of u)) g.events ∙ state-append (first_of u) (events_of s) g.added) h.of_console
 
 pub grows_trans : (s t u : Console) → Grows s t → Grows t u → Grows s u
 grows_trans s t u g h = record {
@@ -478,7 +478,7 @@ texts_after s (Cancelled t) o h = texts_without s.names t s.waiters h
 texts_after s (DeclaredLate name kind value) o h = texts_later s.names _ s.waiters h
 texts_after s (Labelled t label) o h = h
 
-pub texts_from : (s : Slow) (es : List Event) → AreOfConsole s es → WaitersAreOfText s → WaitersAreOfText (state_from s es)
+pub texts_from : (s : Slow) (es : List Event) → AreOfTexts s es → WaitersAreOfText s → WaitersAreOfText (state_from s es)
 texts_from s [] o h = h
 texts_from s (e ∷ es) o h = texts_from (after s e.what) es o.2 (texts_after s e.what o.1 h)
 
@@ -526,23 +526,25 @@ waiting_stay_of_text = record {
 
 -- the events and the checkpoint of a console are its own
 abbrev pub IsOwn : Console → Type 0
-IsOwn s = IsOfConsole (present_desk s).desk
+IsOwn s = IsOfTexts (present_desk s).desk
 
 own_waits : (s : Console) → IsOwn s → WaitAsTheirTexts s
-own_waits s h = texts_from (first_of s) (events_of s) h.0 (start_texts (table_of s) (checkpoint_of_console s) h.1)
+own_waits s h = texts_from (first_of s) (events_of s) h.events (start_texts (table_of s) (checkpoint_of_console s) h.blocks)
 
 grown_own : (s t : Console) → Grows s t → IsOwn s → IsOwn t
-grown_own s t g h = (
-  subst (AreOfConsole (first_of t)) (sym g.events) (of_append (first_of t) (events_of s) g.added (events s g h) g.of_console),
-  subst (λ (o : Option CheckpointView). IfSome o BlocksAreOfText) (sym g.same_start) h.1,
-)
+grown_own s t g h = record {
+  events = subst (AreOfTexts (first_of t)) (sym g.events) (of_append (first_of t) (events_of s) g.added (earlier s g h) g.of_console);
+  blocks = subst (λ (o : Option CheckpointView). IfSome o BlocksAreOfText) (sym g.same_start) h.blocks;
+}
   where
-    events : (s : Console) → Grows s t → IsOwn s → AreOfConsole (first_of t) (events_of s)
-    events (Declaring table limit) g h = tt
-    events (Open d) g h = subst (λ (x : Slow). AreOfConsole x d.desk.history) (sym (same_first d t g)) h.0
+    earlier : (s : Console) → Grows s t → IsOwn s → AreOfTexts (first_of t) (events_of s)
+    earlier (Declaring table limit) g h = tt
+    earlier (Open d) g h = subst (λ (x : Slow). AreOfTexts x d.desk.history) (sym (same_first d t g)) h.events
 
 moved_own : (b : Bool) (s t : Console) → MovesTo b s t → IsOwn s → IsOwn t
-moved_own true s t m h = subst IsOwn (sym m) (tt, checkpoint_texts s (own_waits s h))
+moved_own true s t m h =
+    let begun : IsOwn (with_checkpoint s) = record { events = tt; blocks = checkpoint_texts s (own_waits s h) } in
+    subst IsOwn (sym m) begun
 moved_own false s t m h = grown_own s t m h
 
 pub line_own : (s : Console) (line : List ℕ) → IsOwn s → IsOwn (state_after s line)
@@ -554,7 +556,7 @@ lines_own s (line ∷ rest) h = lines_own (state_after s line) rest (line_own s 
 
 pub events_are_of_console : EventsAreOfConsole
 unfolding initial_console
-events_are_of_console max_events before = lines_own (initial_console max_events) before (tt, tt)
+events_are_of_console max_events before = lines_own (initial_console max_events) before (record { events = tt; blocks = tt })
 
 -- ---- the declared variables
 variables_push : (prior ds : List Declared) (d : Declared) → AreVariablesFrom prior ds → MayDeclare (prior ++ ds) d → AreVariablesFrom prior (ds ++ d ∷ [])

@@ -37,19 +37,22 @@ IsOfText known (DeclaredLate name kind value) =
 IsOfText known (Labelled ticket label) = IsTrue (is_label label)
 
 -- each event, from a state on, is of client 0, and of a text over the names of the state before it
-abbrev pub AreOfConsole : slow.Slow → List Event → Type 0
-AreOfConsole s [] = ⊤
-AreOfConsole s (e ∷ es) = (e.client ≡ 0) × IsOfText s.names e.what × AreOfConsole (slow.after s e.what) es
+abbrev pub AreOfTexts : slow.Slow → List Event → Type 0
+AreOfTexts s [] = ⊤
+AreOfTexts s (e ∷ es) = (e.client ≡ 0) × IsOfText s.names e.what × AreOfTexts (slow.after s e.what) es
 
--- the events of a desk since its last checkpoint are, and each waiting block of that checkpoint is of its text
-abbrev pub IsOfConsole : DeskView → Type 0
-IsOfConsole d = AreOfConsole (start_state d) d.history × IfSome d.checkpoint BlocksAreOfText
+-- What a desk has is of texts.
+pub record IsOfTexts (d : DeskView) : Type 0 where
+  -- each of its events since its last checkpoint is of client 0, and of a text
+  pub events : AreOfTexts (start_state d) d.history
+  -- each waiting block of that checkpoint is what its text checks to
+  pub blocks : IfSome d.checkpoint BlocksAreOfText
 
 -- whatever lines came before, and however many events the history may have
 abbrev pub EventsAreOfConsole : Type 0
 EventsAreOfConsole =
     (max_events : ℕ) (before : List (List ℕ))
-    → IsOfConsole (present_desk (console_reached max_events before)).desk
+    → IsOfTexts (present_desk (console_reached max_events before)).desk
 
 -- each waiting block is what its text checks to over the names
 abbrev pub AreOfTheirTexts : List Named → List slow.Waiter → Type 0

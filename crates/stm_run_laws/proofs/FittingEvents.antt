@@ -13,7 +13,7 @@ use Rattle.stm_desk.specs.DeskView.{start_state}
 use Rattle.stm_run.specs.Console.{initial_console}
 use Rattle.stm_run.specs.ConsoleState.{present_desk}
 use Rattle.stm_run.specs.AfterLines.{state_after_lines}
-use Rattle.stm_run.specs.Fitting.{IsOfText, AreOfConsole, EventsAreOfConsole, AreNumbersSmall, HaveSmallNumbers, NumbersAreSmall, IsVerdictInRange, AreVerdictsInRange}
+use Rattle.stm_run.specs.Fitting.{IsOfText, AreOfTexts, EventsAreOfConsole, AreNumbersSmall, HaveSmallNumbers, NumbersAreSmall, IsVerdictInRange, AreVerdictsInRange}
 use Rattle.stm_run_laws.specs.ReadBack.{VerdictsFitLines, EventsFitNames, EventsFitLines}
 use Rattle.stm_run.proofs.DeclaredVariables.{LateOrTold, late_judged, fits_value}
 
@@ -30,11 +30,11 @@ module _ (declarations : DeclarationAnswersAreRight) where
       let told = variable_told known t.0 (record { name = name; kind = kind; value = value }) t.1 in (told.0, n.0, fits_value value told.1 n.1)
   what_fits known (Labelled ticket label) t n v = (n, t)
 
-  pub all_fit : (s : Slow) (es : List Event) → AreOfConsole s es → HaveSmallNumbers es → AreVerdictsInRange es → EventsFitNames s es
+  pub all_fit : (s : Slow) (es : List Event) → AreOfTexts s es → HaveSmallNumbers es → AreVerdictsInRange es → EventsFitNames s es
   all_fit s [] t n v = tt
   all_fit s (e ∷ es) t n v = ((omega (arith, t.0), what_fits s.names e.what t.1 n.0 v.0), all_fit (after s e.what) es t.2 n.1 v.1)
 
   pub events_fit : EventsAreOfConsole → NumbersAreSmall → VerdictsFitLines → EventsFitLines
   events_fit of_console small verdicts max_events low before =
       let d = (present_desk (state_after_lines (initial_console max_events) before)).desk in
-      all_fit (start_state d) d.history (of_console max_events before).0 (small max_events low before) (verdicts max_events low before)
+      all_fit (start_state d) d.history (of_console max_events before).events (small max_events low before) (verdicts max_events low before)

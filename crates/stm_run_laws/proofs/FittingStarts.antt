@@ -164,7 +164,7 @@ module _ (blocks : BlockAnswersAreRight) (declarations : DeclarationAnswersAreRi
       let first = start_state d in
       let r = k.ranged in
       let stands = present_stands s r.is_reached in
-      let given = all_given blocks declarations first d.history r.is_own.0 in
+      let given = all_given blocks declarations first d.history r.is_own.events in
       let begins = first_range blocks declarations faults stable checked laws s r in
       let stores : StoresAre64Bit first d.history = stores_range laws first d.history begins stands.legal.each given in
       let since : AreSince64Bit (state_of d).waiters = since_from first d.history stores (start_since d.table d.checkpoint r.store k.checkpoint) in
@@ -200,4 +200,4 @@ module _ (blocks : BlockAnswersAreRight) (declarations : DeclarationAnswersAreRi
       let d = (present_desk s).desk in
       let r = k.ranged in
       let stands = present_stands s r.is_reached in
-      start_fits blocks verdicts d.table d.checkpoint r.variables stands.begins r.store r.is_own.1 k.checkpoint
+      start_fits blocks verdicts d.table d.checkpoint r.variables stands.begins r.store r.is_own.blocks k.checkpoint

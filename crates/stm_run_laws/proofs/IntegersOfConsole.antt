@@ -31,7 +31,7 @@ use Rattle.stm_run.specs.declared.console.Console.{Console}
 use Rattle.stm_run.specs.Console.{initial_console, state_after}
 use Rattle.stm_run.specs.ConsoleState.{present_desk, table_of, checkpoint_of_console, with_checkpoint}
 use Rattle.stm_run.specs.AfterLines.{state_after_lines}
-use Rattle.stm_run.specs.Fitting.{IsOfText, AreOfConsole, IsOfConsole, AreOfTheirTexts, WaitersAreOfText, VariablesFit, IsVerdictInRange, AreVerdictsInRange}
+use Rattle.stm_run.specs.Fitting.{IsOfText, AreOfTexts, IsOfTexts, AreOfTheirTexts, WaitersAreOfText, VariablesFit, IsVerdictInRange, AreVerdictsInRange}
 use Rattle.stm_run.specs.Growing.{Grows}
 use Rattle.stm_run.specs.LineCheckpoints.{line_checkpoints}
 use Rattle.stm_run.proofs.ArgumentCases.{either_has}
@@ -48,7 +48,7 @@ use Rattle.stm_run.proofs.SoundStates.{IsSound, sound_after}
 -- what holds of a console that has taken some lines: the values of its checkpoint are in range, too
 pub record IsRanged (s : Console) : Type 0 where
   pub is_reached : IsReached s
-  pub is_own : IsOfConsole (present_desk s).desk
+  pub is_own : IsOfTexts (present_desk s).desk
   pub variables : VariablesFit (table_of s)
   pub store : IfSome (checkpoint_of_console s) (λ c. AreCells64Bit c.store)
 
@@ -98,7 +98,7 @@ module _ (blocks : BlockAnswersAreRight) where
   allowed_fits s k h (DeclaredLate name kind v) a range = tt
   allowed_fits s k h (Labelled t label) a range = tt
 
-  all_fit : (s : Slow) → IsSound s → WaitersAreOfText s → (es : List Event) → LegalFrom s es → SubmittedAreWellTyped es → AreOfConsole s es → HaveVerdicts64Bit es → AreVerdictsInRange es
+  all_fit : (s : Slow) → IsSound s → WaitersAreOfText s → (es : List Event) → LegalFrom s es → SubmittedAreWellTyped es → AreOfTexts s es → HaveVerdicts64Bit es → AreVerdictsInRange es
   all_fit s k h [] l w t range = tt
   all_fit s k h (e ∷ es) l w t range = (
     allowed_fits s k h e.what l.0.what range.0,
@@ -116,7 +116,7 @@ module _ (blocks : BlockAnswersAreRight) where
         let told = variable_told declarations known h.0 (record { name = name; kind = kind; value = v }) h.1 in literal_64_bit v told.1
     given_range known (Labelled t label) h = tt
 
-    pub all_given : (s : Slow) (es : List Event) → AreOfConsole s es → AreGiven64Bit es
+    pub all_given : (s : Slow) (es : List Event) → AreOfTexts s es → AreGiven64Bit es
     all_given s [] h = tt
     all_given s (e ∷ es) h = (given_range s.names e.what h.1, all_given (after s e.what) es h.2)
 
@@ -128,13 +128,13 @@ module _ (blocks : BlockAnswersAreRight) where
 
       -- ---- consoles
       pub first_range : (s : Console) → IsRanged s → IsState64Bit (start_state (present_desk s).desk)
-      first_range s r = start_range (table_of s) (checkpoint_of_console s) r.variables r.store r.is_own.1
+      first_range s r = start_range (table_of s) (checkpoint_of_console s) r.variables r.store r.is_own.blocks
 
       pub state_range : (s : Console) → IsRanged s → IsState64Bit (state_of (present_desk s).desk)
       state_range s r =
           let d = (present_desk s).desk in
           let stands = present_stands s r.is_reached in
-          laws.later (start_state d) d.history (first_range s r) stands.legal.each (all_given (start_state d) d.history r.is_own.0)
+          laws.later (start_state d) d.history (first_range s r) stands.legal.each (all_given (start_state d) d.history r.is_own.events)
 
       -- a checkpoint has the present store
       checkpoint_range : (s : Console) → IsRanged s → IfSome (checkpoint_of_console (with_checkpoint s)) (λ c. AreCells64Bit c.store)
@@ -161,7 +161,7 @@ module _ (blocks : BlockAnswersAreRight) where
       unfolding initial_console
       initial_range max_events low = record {
         is_reached = start_reached blocks declarations faults stable checked max_events low;
-        is_own = (tt, tt);
+        is_own = record { events = tt; blocks = tt };
         variables = (omega arith, tt);
         store = tt;
       }
@@ -173,5 +173,5 @@ module _ (blocks : BlockAnswersAreRight) where
           let d = (present_desk s).desk in
           let stands = present_stands s r.is_reached in
           let first = start_state d in
-          let verdicts = laws.verdicts first d.history (first_range s r) stands.legal.each (all_given first d.history r.is_own.0) in
-          all_fit first stands.start (start_texts d.table d.checkpoint r.is_own.1) d.history stands.legal.each stands.typed r.is_own.0 verdicts
+          let verdicts = laws.verdicts first d.history (first_range s r) stands.legal.each (all_given first d.history r.is_own.events) in
+          all_fit first stands.start (start_texts d.table d.checkpoint r.is_own.blocks) d.history stands.legal.each stands.typed r.is_own.events verdicts
