@@ -12,6 +12,7 @@ pub mod GivenLabels
 pub mod InputInParts
 pub mod LegalSettling
 pub mod ReachedConsole
+pub mod Replying
 pub mod RunAtOnce
 pub mod Running
 pub mod SmallNumbers

@@ -4,11 +4,13 @@ use Rattle.stm_run.specs.declared.command.Command.{Command}
 use Rattle.stm_run.specs.declared.command.Command.TheVariants.{Tvar, Try, Looks, Show, Reads, Store, History, Ready, Why, Events, Checkpoint, Block, Board}
 use Rattle.stm_run.specs.declared.console.Console.{Console}
 use Rattle.stm_run.specs.declared.console.Console.TheVariants.{Declaring, Open}
-use Rattle.stm_run.specs.Console.{on_console}
-use Rattle.stm_run.specs.ConsoleState.{present_desk, is_open}
+use Rattle.stm_run.specs.Console.{on_console, answer_to, state_after, step}
+use Rattle.stm_run.specs.ConsoleState.{present_desk, is_open, events_of}
+use Rattle.stm_run.specs.LineCheckpoints.{line_checkpoints}
 use Rattle.stm_run.specs.declared.reply.Reply.{Reply}
 use Rattle.stm_run.specs.declared.reply.Reply.TheVariants as reply
-use Rattle.stm_commands.specs.Checkpointing.{bare_checkpoint_step}
+use Rattle.stm_commands.specs.Checkpointing.{are_tickets_full, bare_checkpoint_step}
+use Rattle.stm_commands.specs.OpenDesk.{Steps}
 use Rattle.stm_commands.specs.Questions.{later_events_text}
 use Rattle.stm_commands.specs.Contents.{events_text}
 
@@ -68,3 +70,34 @@ IsAfterReply reply.Checkpoint c s = (is_open c ≡ true) × (s ≡ on_console (b
 -- this is the console, and the reply is what the step writes
 abbrev pub IsStep : Reply → List ℕ → List ℕ → Console → Console × List ℕ → Type 0
 IsStep r old new c s = IsAfterReply r c s × IsReply r old new c s.1
+
+-- ---- what came of a line
+-- The answer to a line, which only prints something, is still to be written.
+pub record IsToWrite (answer : List ℕ) (earlier : Console) (line : List ℕ) (later : Console) (old new : List ℕ) : Type 0 where
+  -- the line has done its step
+  pub console : later ≡ state_after earlier line
+  pub answer_is : answer_to earlier line ≡ answer
+  -- it adds no event, and makes no checkpoint
+  pub events : events_of later ≡ events_of earlier
+  pub no_checkpoint : line_checkpoints earlier line ≡ false
+  -- nothing was appended
+  pub appended : new ≡ old
+
+-- A checkpoint is still to be made, unless tickets could run out after it; with it the line has done its step.
+pub record IsToCheckpoint (earlier : Console) (line : List ℕ) (later : Console) (old new : List ℕ) : Type 0 where
+  -- the desk is open, and otherwise as before
+  pub opened : later ≡ Open (present_desk earlier)
+  pub step_is : step earlier line ≡ on_console (bare_checkpoint_step (present_desk earlier))
+  -- whether the line makes a checkpoint
+  pub made : line_checkpoints earlier line ≡ not (are_tickets_full (present_desk earlier))
+  -- nothing was appended
+  pub appended : new ≡ old
+
+-- What came of a line, by the reply: the answer was appended to the text, or this is still to be done for it. The console is the
+-- earlier one before the line, and the later one after it; the text is the old one before it, and the new one after it.
+abbrev pub Replies : Reply → Console → List ℕ → Console → List ℕ → List ℕ → Type 0
+Replies reply.Text earlier line later old new = Steps later old new (step earlier line) × (line_checkpoints earlier line ≡ false)
+Replies reply.History earlier line later old new = IsToWrite (history_of later) earlier line later old new
+-- the answer is the events from the n-th on, and how many there are
+Replies (reply.Events n) earlier line later old new = IsToWrite (later_events_of later n) earlier line later old new
+Replies reply.Checkpoint earlier line later old new = IsToCheckpoint earlier line later old new

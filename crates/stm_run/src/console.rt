@@ -5,13 +5,13 @@ ghost use Rattle.stm_history_text.specs.HistoryText.{WritesText};
 ghost use Rattle.stm_commands.specs.Contents.{history_answer};
 ghost use Rattle.stm_commands.specs.OpenDesk.{Steps};
 ghost use Rattle.stm_commands.specs.Questions.{events_answer};
-ghost use Rattle.stm_run.specs.Abstraction.{IsReply, IsStep, history_of, is_change, is_question, later_events_of};
-ghost use Rattle.stm_run.specs.Console.{initial_console, command_named, desk_step, on_console, word_step, step};
+ghost use Rattle.stm_run.specs.Abstraction.{IsReply, IsStep, Replies, history_of, is_change, is_question, later_events_of};
+ghost use Rattle.stm_run.specs.Console.{initial_console, command_named, desk_step, on_console, word_step};
 ghost use Rattle.stm_machine.specs.Checkpoints.{MayStart};
 ghost use Rattle.stm_desk.specs.Checkpointed.{checkpoint_now};
 ghost use Rattle.stm_commands.specs.Checkpointing.{are_tickets_full, bare_checkpoint_step, checkpoint_step, makes_checkpoint};
 ghost use Rattle.stm_run.specs.ConsoleState.{present_desk, is_open, table_of, events_of, with_checkpoint};
-ghost use Rattle.stm_run.specs.LineCheckpoints.{asks_checkpoint, reply_checkpoints, is_streamed, command_checkpoints, word_checkpoints, line_checkpoints};
+ghost use Rattle.stm_run.specs.LineCheckpoints.{asks_checkpoint, reply_checkpoints, is_streamed, command_checkpoints, word_checkpoints};
 ghost use Rattle.stm_run.specs.Declaring.{tvar_line, tvar_step};
 ghost use Rattle.stm_run.specs.declared.console.Console.TheVariants.{Open as IsOpen};
 
@@ -313,8 +313,13 @@ impl Console {
         argument: &str,
         out: &mut String,
     ) -> Result<Reply, NoMemory>
-        ensures { IfOk result (λ r. IsStep r (string_bytes out.old) (string_bytes out.new)
+        ensures step { IfOk result (λ r. IsStep r (string_bytes out.old) (string_bytes out.new)
             self.new (word_step self.old (command_named word.now) argument.now)) }
+        ensures asked { IfOk result (λ r. asks_checkpoint r ≡ true → self.new ≡ IsOpen (present_desk self.old)) }
+        ensures made { IfOk result (λ r. reply_checkpoints (present_desk self.old) r
+            ≡ word_checkpoints self.old (command_named word.now) argument.now) }
+        ensures streamed { IfOk result (λ r. is_streamed r ≡ true
+            → events_of self.new ≡ events_of self.old) }
     {
         match command_of(word) {
             None => refuse("Command", out).and(Ok(Reply::Text)),
@@ -327,15 +332,14 @@ impl Console {
     }
 
     /// Appends the answer to a line as `answer` does, but starts no thread.
-    #[tactic(auto, unfolding(crate::specs::Console::step))]
     pub fn answer_here(
         &mut self,
         alloc: Global,
         line: &[u8],
         out: &mut String,
     ) -> Result<Reply, NoMemory>
-        ensures { IfOk result (λ r. IsStep r (string_bytes out.old) (string_bytes out.new)
-            self.new (step self.old line.now)) }
+        // By the reply: the answer, or what is still to be done for it.
+        ensures { IfOk result (λ r. Replies r self.old line.now self.new (string_bytes out.old) (string_bytes out.new)) }
     {
         match judge(line) {
             Judgement::TooLong => refuse("LineTooLong", out).and(Ok(Reply::Text)),
@@ -349,7 +353,6 @@ impl Console {
     }
 
     /// Appends the answer to a line, or says that it is the history, or that a checkpoint is to be made (`answer_checkpoint`).
-    #[tactic(auto, unfolding(crate::specs::Console::step, crate::specs::LineCheckpoints::line_checkpoints))]
     pub fn answer<T: Threads + Sync>(
         &mut self,
         rt: &T,
@@ -358,14 +361,8 @@ impl Console {
         line: &[u8],
         out: &mut String,
     ) -> Result<Reply, NoMemory>
-        ensures step { IfOk result (λ r. IsStep r (string_bytes out.old) (string_bytes out.new)
-            self.new (step self.old line.now)) }
-        // If a checkpoint is to be made, the desk is open, and otherwise as before.
-        ensures asked { IfOk result (λ r. asks_checkpoint r ≡ true → self.new ≡ IsOpen (present_desk self.old)) }
-        ensures made { IfOk result (λ r. reply_checkpoints (present_desk self.old) r ≡ line_checkpoints self.old line.now) }
-        // What is still to be written is the answer to a line that adds no event.
-        ensures streamed { IfOk result (λ r. is_streamed r ≡ true
-            → events_of self.new ≡ events_of self.old) }
+        // By the reply: the answer, or what is still to be done for it.
+        ensures { IfOk result (λ r. Replies r self.old line.now self.new (string_bytes out.old) (string_bytes out.new)) }
     {
         match judge(line) {
             Judgement::TooLong => refuse("LineTooLong", out).and(Ok(Reply::Text)),
