@@ -1,18 +1,17 @@
 -- What C gets of a call, from what the calls in it did.
-use Rattle.std.proofs.Common.{◌≡◌, ◌≢◌, ℕ, ◌<◌, ◌≤◌, Bool, true, false, List, [], ◌++◌, length, take, Option, Some, refl, sym, ap, subst, ◌∙◌, arith}
+use Rattle.std.proofs.Common.{◌≡◌, ◌≢◌, ℕ, ◌<◌, ◌≤◌, Bool, true, false, List, [], ◌++◌, length, take, Option, refl, sym, ap, subst, ◌∙◌, arith}
 use Rattle.std.specs.Prelude.{nat_lt, if◌then◌else◌, IsSomeAnd}
-use Rattle.std.proofs.Math.Seq.{take-append_seam}
 use Rattle.std.proofs.lemmas.Bool.Decides.{nat_tests}
 use Rattle.stm_options.specs.declared.explore_options.ExploreOptions.{ExploreOptions}
-use Rattle.stm_run.specs.Console.{answers_to, initial_console}
+use Rattle.stm_run.specs.Console.{answers_to}
 use Rattle.stm_run.specs.AfterLines.{state_after_lines}
 use Rattle.stm_embed.specs.declared.exploring.Ended.{Ended}
 use Rattle.stm_embed.specs.declared.exploring.Explored.{Explored}
 use Rattle.stm_embed.specs.declared.feeding.Embedded.{Embedded}
 use Rattle.stm_embed.specs.declared.feeding.Taken.{Taken}
-use Rattle.stm_embed.specs.Exploring.{AreDiagnosticsOf, IsDiagnosed, IsExplored, diagnosed_text, ended_status, invalid_line}
+use Rattle.stm_embed.specs.Exploring.{AreDiagnosticsOf, IsExplored, diagnosed_text, ended_status, invalid_line}
 use Rattle.stm_embed.specs.Feeding.{HasOnly, console_of, unread_answers}
-use Rattle.stm_embed.specs.ForC.{EndsFeeding, Feeds, GivesExploration, KeepsExploration, TakesLines, fed_status, lines_taken}
+use Rattle.stm_embed.specs.ForC.{EndsFeeding, Feeds, GivesExploration, TakesLines, fed_status, lines_taken}
 use Rattle.stm_embed.specs.Status.{all_taken, no_memory, part_of_line, taken_status}
 
 -- ---- what a status says, which goes by whether memory ran out and whether less was taken than there is
@@ -69,32 +68,6 @@ ends_feeding lent old mid new lines t status same taken stays is = record {
 }
 
 -- ---- an exploration
--- what is kept of it, without the diagnostics if they aren't asked for
-pub keeps_exploration : (script : List ℕ) (options : ExploreOptions) (diagnosed : Bool) (old new : Embedded) (ended : Ended) (place : ℕ) (text kept : List ℕ)
-    → IsDiagnosed script options ended place text → kept ≡ (if diagnosed then text else take place text) → unread_answers new ≡ unread_answers old ++ kept
-    → KeepsExploration script options diagnosed old new ended place
-keeps_exploration script options diagnosed old new ended place text kept d is more = record {
-  found = d.found;
-  diagnostics = d.diagnostics;
-  explored_so = d.explored;
-  are_diagnostics = d.are_diagnostics;
-  place_is = d.place_is;
-  text_is = more ∙ ap (λ (l : List ℕ). unread_answers old ++ l) (is ∙ text_by diagnosed);
-}
-  where
-    front : take place text ≡ d.found
-    front = ap (λ (n : ℕ). take n text) d.place_is ∙ ap (take (length d.found)) d.text_is ∙ take-append_seam d.found d.diagnostics
-
-    text_by : (b : Bool) → (if b then text else take place text) ≡ diagnosed_text b d.found d.diagnostics
-    text_by true = d.text_is
-    text_by false = front
-
--- a new console that keeps it has nothing else
-pub has_only : (old new : Embedded) (kept : List ℕ) (text : Option Embedded) → console_of old ≡ initial_console 0 → unread_answers old ≡ [] → console_of new ≡ console_of old
-    → unread_answers new ≡ unread_answers old ++ kept → text ≡ Some new → IsSomeAnd text (λ e. HasOnly kept e)
-has_only old new kept text first none stays more is =
-    subst (λ (o : Option Embedded). IsSomeAnd o (λ e. HasOnly kept e)) (sym is) (stays ∙ first, more ∙ ap (λ (l : List ℕ). l ++ kept) none)
-
 -- what C gets says so
 pub gives_exploration : (script : List ℕ) (options asked : ExploreOptions) (diagnosed : Bool) (ended : Ended) (status : ℕ) (explored : Explored) (found diagnostics : List ℕ) (text : Option Embedded)
     → options ≡ asked → IsExplored script options ended found → AreDiagnosticsOf script options ended diagnostics → explored.length ≡ length found
