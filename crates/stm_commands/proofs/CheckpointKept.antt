@@ -55,10 +55,6 @@ same_next : (s : Slow) → (checkpoint_state (checkpoint_of s)).next ≡ s.next
 unfolding checkpoint_of
 same_next s = refl
 
-same_store : (s : Slow) → (checkpoint_state (checkpoint_of s)).store ≡ s.store
-unfolding checkpoint_of
-same_store s = refl
-
 ticket_again : (s : Slow) (b : Block) (t : ℕ) → IsTicketOf b s t → IsTicketOf b (checkpoint_state (checkpoint_of s)) t
 ticket_again s b t k = record {
   given = rw (same_next s) k.given;

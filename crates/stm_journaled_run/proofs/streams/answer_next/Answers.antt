@@ -1,4 +1,4 @@
-use Rattle.std.proofs.Common.{◌≡◌, inr, ℕ, ◌<◌, List, [], ◌∷◌, ◌++◌, Ok, Err, None, subst, ap, ◌∙◌, refl}
+use Rattle.std.proofs.Common.{◌≡◌, inr, ℕ, ◌<◌, List, [], ◌∷◌, ◌++◌, Ok, None, subst, ap, ◌∙◌, refl}
 use Rattle.std.specs.Io.KnownBytes.{prepend_known}
 use Rattle.std.proofs.KnownBytes.{prepend_known-nil}
 use Rattle.stm_lines.specs.LineClass.{line_class}

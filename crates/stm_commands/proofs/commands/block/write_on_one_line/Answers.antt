@@ -1,5 +1,5 @@
 use Rattle.std.proofs.Common.{◌≡◌, ◌++◌, ◌||◌, nat_eq, if◌then◌else◌, string_bytes, List, ℕ, [], ◌∷◌, length, sym, ap, ◌∙◌, subst, append_assoc, append-nil}
-use Rattle.std.specs.Str.{chars, IsUtf8}
+use Rattle.std.specs.Str.{IsUtf8}
 use Rattle.std.proofs.lemmas.Str.{IsUtf8-past_char, chars_past_char, chars-nil}
 use Rattle.std.proofs.Math.Utf8.{encode}
 use Rattle.stm_commands.specs.Labelling.{unbroken, on_one_line}
