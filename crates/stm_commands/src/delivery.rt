@@ -15,7 +15,7 @@ use stm_store::Frozen;
 use stm_terms::NoMemory;
 
 /// Why a delivery to a ticket is refused whatever is delivered: no block waits under it, or the block is current.
-pub fn refused_unevaluated(desk: &Desk, ticket: u32) -> Option<DeliverError>
+pub(crate) fn refused_unevaluated(desk: &Desk, ticket: u32) -> Option<DeliverError>
     ensures { result ≡ refusal_unevaluated (find_waiter ticket (state_of desk.now).waiters) }
 {
     match desk.status(ticket) {
@@ -40,7 +40,7 @@ fn reported(refusal: DeliverError) -> Result<Option<DeliverError>, NoMemory>
 }
 
 /// Delivers a message of a job. The answer is why it is refused, if it is.
-pub fn deliver_message(
+pub(crate) fn deliver_message(
     desk: &mut Desk,
     message: Evaluated,
 ) -> Result<Option<DeliverError>, NoMemory>
@@ -60,7 +60,7 @@ pub fn deliver_message(
 }
 
 /// Delivers what a job's block does on a store. The answer is why it is refused, if it is.
-pub fn deliver_job(
+pub(crate) fn deliver_job(
     desk: &mut Desk,
     alloc: Global,
     store: &Frozen,

@@ -64,7 +64,7 @@ pub struct Stores {
 
 impl Stores {
     /// No places, and a look at the next event or job.
-    pub fn new(alloc: Global) -> Stores {
+    pub(crate) fn new(alloc: Global) -> Stores {
         Stores {
             places: Vec::new(alloc),
             due: 0,
@@ -94,7 +94,7 @@ impl Stores {
     }
 
     /// Appends jobs that have their stores, after stores were dropped of jobs whose tickets wait no more.
-    pub fn append(
+    pub(crate) fn append(
         &mut self,
         desk: &Desk,
         jobs: &mut Vec<KeptJob>,
