@@ -1,8 +1,8 @@
 -- `checkpoint`: the history begins from where the desk is.
-use Rattle.std.specs.Prelude.{ℕ, Bool, false, ◌&&◌, not, nat_lt, nat_le, if◌then◌else◌, List, [], ◌∷◌, ◌++◌, codes, decimal, length}
-use Rattle.stm_machine.specs.Checkpoints.{max_next}
+use Rattle.std.specs.Prelude.{ℕ, Bool, false, ◌&&◌, not, nat_lt, nat_le, if◌then◌else◌, List, [], ◌∷◌, ◌++◌, codes, decimal, length, Option, Some, None}
+use Rattle.stm_machine.specs.Checkpoints.{CheckpointView, max_next}
 use Rattle.stm_desk.specs.DeskView.{state_of}
-use Rattle.stm_desk.specs.Checkpointed.{checkpointed}
+use Rattle.stm_desk.specs.Checkpointed.{checkpoint_now, checkpointed}
 use Rattle.stm_commands.specs.Arguments.{with_nothing, argument_refused}
 use Rattle.stm_commands.specs.OpenDesk.{OpenDesk}
 use Rattle.stm_commands.specs.Refusals.{refused}
@@ -10,6 +10,10 @@ use Rattle.stm_commands.specs.Refusals.{refused}
 -- tickets could run out in a history from here
 abbrev pub are_tickets_full : OpenDesk → Bool
 are_tickets_full d = nat_lt max_next (state_of d.desk).next
+
+-- the checkpoint of the present state, unless tickets could run out in a history from it
+abbrev pub next_checkpoint_of : OpenDesk → Option CheckpointView
+next_checkpoint_of d = if are_tickets_full d then None else Some (checkpoint_now d.desk)
 
 -- the history begins from here; the jobs stay, with their numbers
 abbrev pub begun_anew : OpenDesk → OpenDesk

@@ -1,5 +1,5 @@
 -- What a line leaves, by how it was taken.
-use Rattle.std.proofs.Common.{◌≡◌, ◌≢◌, inl, inr, ℕ, zero, ◌<◌, ◌≤◌, List, ◌++◌, length, Bool, true, false, cond, not, IsTrue, Err, refl, sym, ap, ap₂, ◌∙◌, subst, arith}
+use Rattle.std.proofs.Common.{◌≡◌, ◌≢◌, inl, inr, ℕ, zero, ◌<◌, ◌≤◌, List, ◌++◌, length, Bool, true, false, cond, not, IsTrue, Option, Some, None, Err, refl, sym, ap, ap₂, ◌∙◌, subst, arith}
 use Rattle.std.specs.Prelude.{◌⊎◌, nat_lt, nat_le, ◌&&◌, codes}
 use Rattle.std.proofs.lemmas.Bool.Decides.{nat_tests}
 use Rattle.std.proofs.lemmas.Bool.{le-leb, lt-ltb}
@@ -9,11 +9,12 @@ use Rattle.stm_lines.specs.declared.run_fault.RunFault.{RunFault}
 use Rattle.stm_lines.specs.declared.run_fault.RunFault.TheVariants.{NoMemory as NoMemoryLeft}
 use Rattle.stm_journal.specs.Disk.{Disk, LeavesOnly}
 use Rattle.stm_journal.proofs.Moments.{weaker}
-use Rattle.stm_machine.specs.Checkpoints.{max_next}
+use Rattle.stm_machine.specs.Checkpoints.{CheckpointView, max_next}
+use Rattle.stm_desk.specs.Checkpointed.{checkpoint_now}
 use Rattle.stm_desk.specs.DeskView.{state_of}
 use Rattle.stm_history_file.specs.Durable.{IsFormatFor}
 use Rattle.stm_history_file.specs.declared.recording.HistoryFile.{HistoryFile}
-use Rattle.stm_commands.specs.Checkpointing.{are_tickets_full, begun_anew, checkpoint_line}
+use Rattle.stm_commands.specs.Checkpointing.{are_tickets_full, begun_anew, checkpoint_line, next_checkpoint_of}
 use Rattle.stm_commands.specs.OpenDesk.{OpenDesk}
 use Rattle.stm_commands.specs.Refusals.{refused}
 use Rattle.stm_run.specs.declared.console.Console.{Console}
@@ -224,7 +225,10 @@ module _ {D : Type 0} (disk : Disk D) (old mid new : HistoryFile D) (same : IsTr
 pub untouched : {D : Type 0} (disk : Disk D) (f : HistoryFile D) → KeepsConsoles disk f f
 untouched disk f = λ s k. k
 
--- there is room for it
-pub room_for_it : (full : Bool) → true ≡ not full → full ≡ false
-room_for_it true e = absurd (cc e)
-room_for_it false e = refl
+-- there is room for a checkpoint that can be made
+room_by : {A : Type 0} (full : Bool) (c k : A) → Some c ≡ cond {A = Option A} full None (Some k) → full ≡ false
+room_by true c k is = absurd (cc is)
+room_by false c k is = refl
+
+pub room_for_it : (d : OpenDesk) (c : CheckpointView) → Some c ≡ next_checkpoint_of d → are_tickets_full d ≡ false
+room_for_it d c is = room_by (are_tickets_full d) c (checkpoint_now d.desk) is

@@ -1,6 +1,6 @@
 //! What the console knows, and its answer to a line.
 
-ghost use Rattle.std.specs.Prelude.{◌≡◌, ◌++◌, [], true, false, not, length, Some, is_some, string_bytes, OnOk, OnErr, IfOk, IfSome};
+ghost use Rattle.std.specs.Prelude.{◌≡◌, ◌++◌, [], true, false, length, Some, string_bytes, OnOk, OnErr, IfOk, IfSome};
 ghost use Rattle.stm_history_text.specs.HistoryText.{WritesText};
 ghost use Rattle.stm_commands.specs.Contents.{history_answer};
 ghost use Rattle.stm_commands.specs.OpenDesk.{Steps};
@@ -9,7 +9,7 @@ ghost use Rattle.stm_run.specs.Abstraction.{IsReply, IsStep, Replies, history_of
 ghost use Rattle.stm_run.specs.Console.{initial_console, command_named, desk_step, on_console, word_step};
 ghost use Rattle.stm_machine.specs.Checkpoints.{MayStart};
 ghost use Rattle.stm_desk.specs.Checkpointed.{checkpoint_now};
-ghost use Rattle.stm_commands.specs.Checkpointing.{are_tickets_full, bare_checkpoint_step, checkpoint_step, makes_checkpoint};
+ghost use Rattle.stm_commands.specs.Checkpointing.{bare_checkpoint_step, checkpoint_step, makes_checkpoint, next_checkpoint_of};
 ghost use Rattle.stm_run.specs.ConsoleState.{present_desk, is_open, table_of, events_of, with_checkpoint};
 ghost use Rattle.stm_run.specs.LineCheckpoints.{asks_checkpoint, reply_checkpoints, is_streamed, command_checkpoints, word_checkpoints};
 ghost use Rattle.stm_run.specs.Declaring.{tvar_line, tvar_step};
@@ -406,8 +406,7 @@ impl Console {
     /// out after it.
     pub fn next_checkpoint(&self) -> Result<Option<Checkpoint>, NoMemory>
         requires { is_open self.now ≡ true }
-        ensures made { IfOk result (λ o. is_some o ≡ not (are_tickets_full (present_desk self.now))) }
-        ensures taken { IfOk result (λ o. IfSome o (λ c. c ≡ checkpoint_now (present_desk self.now).desk)) }
+        ensures made { IfOk result (λ o. o ≡ next_checkpoint_of (present_desk self.now)) }
         ensures start { IfOk result (λ o. IfSome o (λ c. MayStart (table_of self.now) (Some c))) }
     {
         match self {

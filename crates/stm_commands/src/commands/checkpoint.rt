@@ -1,9 +1,9 @@
 //! `checkpoint`: the history begins from where the desk is.
 
-ghost use Rattle.std.specs.Prelude.{◌≡◌, Some, length, is_some, not, IfOk, IfSome};
+ghost use Rattle.std.specs.Prelude.{◌≡◌, Some, length, IfOk, IfSome};
 ghost use Rattle.stm_machine.specs.Checkpoints.{MayStart};
 ghost use Rattle.stm_desk.specs.Checkpointed.{checkpoint_now};
-ghost use Rattle.stm_commands.specs.Checkpointing.{are_tickets_full, begun_anew, checkpoint_line, bare_checkpoint_step};
+ghost use Rattle.stm_commands.specs.Checkpointing.{begun_anew, checkpoint_line, bare_checkpoint_step, next_checkpoint_of};
 ghost use Rattle.stm_commands.specs.Printing.{Prints, TakesStep};
 
 use crate::open_desk::OpenDesk;
@@ -23,8 +23,7 @@ pub fn write_checkpoint_line(count: u32, out: &mut String) -> Result<(), NoMemor
 impl OpenDesk {
     /// The checkpoint of the present state, from which the history can begin (`begin_from`); none if tickets could run out after it.
     pub fn next_checkpoint(&self) -> Result<Option<Checkpoint>, NoMemory>
-        ensures made { IfOk result (λ o. is_some o ≡ not (are_tickets_full self.now)) }
-        ensures taken { IfOk result (λ o. IfSome o (λ c. c ≡ checkpoint_now self.now.desk)) }
+        ensures made { IfOk result (λ o. o ≡ next_checkpoint_of self.now) }
         ensures start { IfOk result (λ o. IfSome o (λ c. MayStart self.now.desk.table (Some c))) }
     {
         match self.desk.next_checkpoint() {
