@@ -25,7 +25,7 @@ use Rattle.stm_events.specs.States.{IsPossible, IsLegalFrom}
 use Rattle.stm_machine.specs.Checkpoints.{MayStart}
 use Rattle.stm_desk.specs.Refusals.{RefusesDelivery, requeued_if_overtaken}
 use Rattle.stm_desk.specs.DeskView.{DeskView, start_state, state_of, is_full, with_event}
-use Rattle.stm_commands.specs.declared.evaluation.Progress.{Progress}
+use Rattle.stm_desk.specs.declared.evaluate.Evaluation.{Evaluation}
 use Rattle.stm_commands.specs.Evaluation.{DeliveredSoFar, delivered_all, all_queued, evaluated}
 use Rattle.stm_commands.specs.Jobs.{jobs_of, job_at, delivery_first, delivery_refusal, installed, delivery_step, deliver_job_step}
 use Rattle.stm_commands.specs.OpenDesk.{HandedOut}
@@ -120,11 +120,11 @@ taken_all d e cells js q t s a =
     ∙ ap (λ (n : ℕ). delivered_all (begun d (sent n d.pending)) (map (handed_out cells) js)) (ticket_count js ∙ ap (λ (ts : List ℕ). length ts) t)
     ∙ ap (delivered_all (begun d (sent (length (all_queued d)) d.pending))) (given_are d cells js s a ∙ ap (jobs_of (state_of d)) t)
 
-progress_is : {E : Type 0} → (e : DeskView) (x y : DeliveredSoFar) (r : Result Progress E) → x ≡ y → IfOk r (λ p. record { desk = e; count = p.count; stop = p.stop } ≡ x) → IfOk r (λ p. record { desk = e; count = p.count; stop = p.stop } ≡ y)
+progress_is : {E : Type 0} → (e : DeskView) (x y : DeliveredSoFar) (r : Result Evaluation E) → x ≡ y → IfOk r (λ p. record { desk = e; count = p.count; stop = p.stop } ≡ x) → IfOk r (λ p. record { desk = e; count = p.count; stop = p.stop } ≡ y)
 progress_is e x y (Ok p) q h = h ∙ q
 progress_is e x y (Err z) q h = tt
 
-pub evaluated_all : {E : Type 0} → (d e f : DeskView) (cells : List (Ty × Value)) (js : List Job) (r : Result Progress E) → e ≡ record d { pending = sent (length js) d.pending } → map (λ (j : Job). j.ticket) js ≡ all_queued d
+pub evaluated_all : {E : Type 0} → (d e f : DeskView) (cells : List (Ty × Value)) (js : List Job) (r : Result Evaluation E) → e ≡ record d { pending = sent (length js) d.pending } → map (λ (j : Job). j.ticket) js ≡ all_queued d
     → cells ≡ plains (state_of d).store → AreJobs (state_of d) js
     → IfOk r (λ p. record { desk = f; count = p.count; stop = p.stop } ≡ delivered_all (record { desk = e; count = 0; stop = None }) (map (handed_out cells) js))
     → IfOk r (λ p. record { desk = f; count = p.count; stop = p.stop } ≡ evaluated d)

@@ -44,7 +44,7 @@ use Rattle.stm_commands.specs.Endings.{finished_line, finish_verdict_step, finis
 use Rattle.stm_source.specs.declared.refusal.Refusal.{Refusal}
 use Rattle.stm_source.specs.CompiledBlock.{compiled_block}
 use Rattle.stm_source.specs.DeclaredVariable.{late_variable_of}
-use Rattle.stm_commands.specs.declared.evaluation.Progress.{Progress}
+use Rattle.stm_desk.specs.declared.evaluate.Evaluation.{Evaluation}
 use Rattle.stm_commands.specs.Evaluation.{DeliveredSoFar, evaluated, evaluation_text, eval_desk_step}
 use Rattle.stm_commands.specs.Jobs.{max_jobs, jobs_of, taken, jobs_line, with_jobs, take_jobs_step, delivery_refusal, delivery_step, deliver_job_step, queued_line, handed_back, handback_ticket_step}
 use Rattle.stm_commands.specs.Labelling.{labelled_line, label_ticket_step}
@@ -126,12 +126,12 @@ handback_refused d e js t old new (Ok x) h q p =
 handback_refused d e js t old new (Err x) h q p = tt
 
 -- ---- eval
-eval_here : {A E : Type 0} → (d e : DeskView) (js : List HandedOut) (p : Progress) (old new : List ℕ) (r : Result A E) → delivered_so_far e p ≡ evaluated d → OnOk r (new ≡ old ++ evaluation_text p.count p.stop)
+eval_here : {A E : Type 0} → (d e : DeskView) (js : List HandedOut) (p : Evaluation) (old new : List ℕ) (r : Result A E) → delivered_so_far e p ≡ evaluated d → OnOk r (new ≡ old ++ evaluation_text p.count p.stop)
     → OnOk r (Steps (opened_as js e) old new (on_desk (opened_as js d) (eval_desk_step d)))
 eval_here d e js p old new (Ok x) q h = (ap (λ (v : DeliveredSoFar). opened_as js v.desk) q, h ∙ ap (λ (v : DeliveredSoFar). old ++ evaluation_text v.count v.stop) q)
 eval_here d e js p old new (Err x) q h = tt
 
-pub eval_made : {A E : Type 0} → (d e : DeskView) (js : List HandedOut) (s : OpenDesk) (p : Progress) (old new : List ℕ) (r : Result A E) → opened_as js d ≡ s → delivered_so_far e p ≡ evaluated d → OnOk r (new ≡ old ++ evaluation_text p.count p.stop)
+pub eval_made : {A E : Type 0} → (d e : DeskView) (js : List HandedOut) (s : OpenDesk) (p : Evaluation) (old new : List ℕ) (r : Result A E) → opened_as js d ≡ s → delivered_so_far e p ≡ evaluated d → OnOk r (new ≡ old ++ evaluation_text p.count p.stop)
     → OnOk r (Steps (opened_as js e) old new (on_desk s (eval_desk_step s.desk)))
 eval_made d e js s p old new r w q h = subst (λ (t : OpenDesk). OnOk r (Steps (opened_as js e) old new (on_desk t (eval_desk_step t.desk)))) w (eval_here d e js p old new r q h)
 

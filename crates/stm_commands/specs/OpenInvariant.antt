@@ -20,7 +20,7 @@ use Rattle.stm_source.specs.LaterNames.{NamesFollow}
 use Rattle.stm_desk.specs.Refusals.{RefusesDelivery, requeued_if_overtaken}
 use Rattle.stm_desk.specs.DeskView.{DeskView, start_state, state_of, with_event}
 use Rattle.stm_commands.specs.declared.jobs.KeptJob.{KeptJob}
-use Rattle.stm_commands.specs.declared.evaluation.Progress.{Progress}
+use Rattle.stm_desk.specs.declared.evaluate.Evaluation.{Evaluation}
 use Rattle.stm_commands.specs.Evaluation.{DeliveredSoFar}
 use Rattle.stm_commands.specs.Jobs.{deliver_job_step}
 use Rattle.stm_commands.specs.OpenDesk.{HandedOut}
@@ -125,7 +125,7 @@ AnswerJobs (j ∷ js) cells [] = ⊥
 AnswerJobs (j ∷ js) cells (a ∷ rest) = AnswersJob j cells a × AnswerJobs js cells rest
 
 -- how far the delivery of jobs came, with the desk as it then is
-abbrev pub delivered_so_far : DeskView → Progress → DeliveredSoFar
+abbrev pub delivered_so_far : DeskView → Evaluation → DeliveredSoFar
 delivered_so_far d p = record { desk = d; count = p.count; stop = p.stop }
 
 -- how far it came before the first job

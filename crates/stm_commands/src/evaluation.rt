@@ -19,21 +19,18 @@ use crate::threading::Threading;
 use std::alloc::Global;
 use std::mem;
 use std::thread::Threads;
-use stm_desk::{DeliverError, Desk};
+use stm_desk::{Desk, Evaluation};
 use stm_eval::{Evaluated, Job};
 use stm_jobs::{Answer, evaluate_all};
 use stm_store::Frozen;
 use stm_terms::NoMemory;
 
-/// How far the delivery of a list of jobs came: how many were taken, and the first refusal.
-#[derive(Clone, Copy, Drop)]
-pub struct Progress {
-    pub count: u32,
-    pub stop: Option<DeliverError>,
-}
-
 /// Delivers the next message, unless one was refused before: then its ticket is queued again.
-fn deliver_next(desk: &mut Desk, message: Evaluated, so_far: Progress) -> Result<Progress, NoMemory>
+fn deliver_next(
+    desk: &mut Desk,
+    message: Evaluated,
+    so_far: Evaluation,
+) -> Result<Evaluation, NoMemory>
     requires few { so_far.count < max_waiting }
     requires own { OwnsTicket (state_of desk.old) message }
     requires start { MayStart desk.old.table desk.old.checkpoint }
@@ -53,19 +50,23 @@ fn deliver_next(desk: &mut Desk, message: Evaluated, so_far: Progress) -> Result
     let refusal = deliver_message(desk, message)?;
     if refusal.is_some() {
         desk.hand_back(ticket);
-        return Ok(Progress {
+        return Ok(Evaluation {
             count: so_far.count,
             stop: refusal,
         });
     }
-    Ok(Progress {
+    Ok(Evaluation {
         count: so_far.count + 1,
         stop: None,
     })
 }
 
 /// Delivers the next answer. A job that wasn't evaluated tells that memory ran out.
-fn deliver_answer(desk: &mut Desk, answer: Answer, so_far: Progress) -> Result<Progress, NoMemory>
+fn deliver_answer(
+    desk: &mut Desk,
+    answer: Answer,
+    so_far: Evaluation,
+) -> Result<Evaluation, NoMemory>
     requires few { so_far.count < max_waiting }
     requires own { IfOk answer (OwnsTicket (state_of desk.old)) }
     requires start { MayStart desk.old.table desk.old.checkpoint }
@@ -88,8 +89,8 @@ fn deliver_answer(desk: &mut Desk, answer: Answer, so_far: Progress) -> Result<P
 fn deliver_answers(
     desk: &mut Desk,
     answers: Vec<Answer>,
-    before: Progress,
-) -> Result<Progress, NoMemory>
+    before: Evaluation,
+) -> Result<Evaluation, NoMemory>
     requires few { before.count + vec_len answers ≤ max_waiting }
     requires own { OwnTheirTickets (state_of desk.old) answers.items }
     requires start { MayStart desk.old.table desk.old.checkpoint }
@@ -135,8 +136,8 @@ fn evaluate_batch<T: Threads + Sync>(
     threading: Threading,
     store: &Frozen,
     jobs: Vec<Job>,
-    before: Progress,
-) -> Result<Progress, NoMemory>
+    before: Evaluation,
+) -> Result<Evaluation, NoMemory>
     requires few { before.count + vec_len jobs ≤ max_waiting }
     requires start { MayStart desk.old.table desk.old.checkpoint }
     requires legal { IsLegalFrom (start_state desk.old) desk.old.history }
@@ -167,7 +168,7 @@ fn evaluate_jobs<T: Threads + Sync>(
     threading: Threading,
     store: &Frozen,
     jobs: Vec<Job>,
-) -> Result<Progress, NoMemory>
+) -> Result<Evaluation, NoMemory>
     requires few { vec_len jobs ≤ max_waiting }
     requires start { MayStart desk.old.table desk.old.checkpoint }
     requires legal { IsLegalFrom (start_state desk.old) desk.old.history }
@@ -178,7 +179,7 @@ fn evaluate_jobs<T: Threads + Sync>(
     ensures grown { HasGrown desk.old desk.new }
     ensures store { (state_of desk.new).store ≡ (state_of desk.old).store }
 {
-    let mut so_far = Progress {
+    let mut so_far = Evaluation {
         count: 0,
         stop: None,
     };
@@ -203,7 +204,7 @@ fn evaluate_by_threads<T: Threads + Sync>(
     rt: &T,
     alloc: Global,
     threading: Threading,
-) -> Result<Progress, NoMemory>
+) -> Result<Evaluation, NoMemory>
     requires start { MayStart desk.old.table desk.old.checkpoint }
     requires legal { IsLegalFrom (start_state desk.old) desk.old.history }
     ensures done { IfOk result (λ p. delivered_so_far desk.new p ≡ evaluated desk.old) }
@@ -217,7 +218,7 @@ fn evaluate_by_threads<T: Threads + Sync>(
 }
 
 /// Evaluates all that is queued on the desk itself, in ascending order of the tickets.
-pub fn evaluate_here(desk: &mut Desk) -> Result<Progress, NoMemory>
+pub fn evaluate_here(desk: &mut Desk) -> Result<Evaluation, NoMemory>
     ensures done { IfOk result (λ p. delivered_so_far desk.new p ≡ evaluated desk.old) }
     ensures grown { HasGrown desk.old desk.new }
     ensures store { (state_of desk.new).store ≡ (state_of desk.old).store }
@@ -228,10 +229,7 @@ pub fn evaluate_here(desk: &mut Desk) -> Result<Progress, NoMemory>
     // The history is known to be legal by this.
     let _after = desk.history();
     match answer {
-        Ok(evaluation) => Ok(Progress {
-            count: evaluation.count,
-            stop: evaluation.stop,
-        }),
+        Ok(evaluation) => Ok(evaluation),
         Err(refused) => Err(refused),
     }
 }
@@ -275,7 +273,7 @@ pub fn evaluate_queued<T: Threads + Sync>(
     rt: &T,
     alloc: Global,
     threading: Threading,
-) -> Result<Progress, NoMemory>
+) -> Result<Evaluation, NoMemory>
     requires start { MayStart desk.old.table desk.old.checkpoint }
     requires legal { IsLegalFrom (start_state desk.old) desk.old.history }
     ensures done { IfOk result (λ p. delivered_so_far desk.new p ≡ evaluated desk.old) }

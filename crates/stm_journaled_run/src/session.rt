@@ -32,26 +32,16 @@ use stm_commands::commands::checkpoint::write_checkpoint_line;
 use stm_commands::refusals::refuse;
 use stm_desk::Checkpoint;
 use stm_history_file::HistoryFile;
-use stm_history_text::WriteFault;
 use stm_journal::{Device, Replace};
 use stm_lines::RunFault;
 use stm_lines::output::{flush, write_text};
 use stm_run::console::Console;
 use stm_run::reply::Reply;
+use stm_run::session::fault_of;
 use stm_terms::NoMemory;
 
 /// How many bytes of answers are held at least before they are written in mid-input: 64 KiB.
 const MOST_HELD: usize = 65_536;
-
-/// What the fault of writing a history is to a run.
-fn fault_of(fault: WriteFault) -> RunFault
-    ensures { result ≢ RunFault.Read }
-{
-    match fault {
-        WriteFault::Write => RunFault::Write,
-        WriteFault::NoMemory => RunFault::NoMemory,
-    }
-}
 
 /// What became of a checkpoint that was tried.
 #[derive(Clone, Copy)]

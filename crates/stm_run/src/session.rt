@@ -21,7 +21,7 @@ use stm_lines::output::write_text;
 use stm_store::Seed;
 
 /// What the fault of writing a history is to a run.
-fn fault_of(fault: WriteFault) -> RunFault
+pub fn fault_of(fault: WriteFault) -> RunFault
     ensures { result ≢ RunFault.Read }
 {
     match fault {
