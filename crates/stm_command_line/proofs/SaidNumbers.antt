@@ -12,15 +12,16 @@ use Rattle.clap.specs.ValueTests.{accepts, is_unsigned_in}
 use Rattle.clap.specs.Walk.{walked}
 use Rattle.clap.specs.Lexer.{without_minus}
 use Rattle.clap.specs.declared.builder.value_parser.ValueParser.TheVariants.{Signed, Unsigned}
-use Rattle.clap.specs.Words.{fault_of, subcommand_of}
+use Rattle.clap.specs.Words.{Kinds, fault_of, subcommand_of}
 use Rattle.clap.specs.declared.error.kind.ErrorKind.TheVariants.{MissingRequiredArgument}
 use Rattle.clap.proofs.OnLiterals.{clap_on_literals}
 use Rattle.clap.proofs.ValueTestLemmas.{accepts-Accepts, Accepts-accepts}
 use Rattle.stm_command_line.specs.CommandLine.{answers_of, are_mistakes, command_line, number_of_text, number_within, request_fault, request_of}
-use Rattle.stm_command_line.specs.WordLaws.{NumbersAreTaken, OthersAreRefused, NoOptionTwice, OptionsNeedRun, CheckpointsAreTaken, OtherCheckpointsAreRefused, CheckpointsNeedJournals, run_twice, run_with, run_checkpointed}
+use Rattle.stm_command_line.specs.WordLaws.{NumbersAreTaken, OthersAreRefused, NoOptionTwice, OptionsNeedRun, CheckpointsAreTaken, OtherCheckpointsAreRefused, CheckpointsNeedJournals, run_twice, run_checkpointed}
 use Rattle.stm_command_line.proofs.WordAnswers.{mistaken_words, request_kinds}
 use Rattle.stm_command_line.proofs.StormWords.{both_taken, first_turn, last_turn, level_mistaken, level_passed, second_mistaken, second_turn, second_walk}
 use Rattle.stm_options.specs.Options.{default_options}
+use Rattle.stm_options.specs.declared.options.Options.{Options}
 use Rattle.stm_command_line.specs.declared.command_line.Request.TheVariants.{Run, RunOn}
 use Rattle.stm_journal.specs.declared.sync_mode.SyncMode.TheVariants.{Full}
 
@@ -94,260 +95,185 @@ refused low high n h outside = go (accepts false (Signed (pos low) (pos high)) (
 within_said : (low high otherwise : ℕ) (o : Option ℕ) (n : ℕ) → o ≡ Some n → nat_le low n ≡ true → nat_le n high ≡ true → number_within low high otherwise o ≡ n
 within_said low high otherwise o n h least most = rw (h, least, most) refl
 
--- `--workers=TEXT`
-workers_passed : (name text : List ℕ) → accepts false (Signed (pos 1) (pos 64)) text ≡ true → fault_of command_line (name ∷ codes "run" ∷ (codes "--workers=" ++ text) ∷ []) ≡ []
+within_number : (low high otherwise n : ℕ) → n < 2 ^ 32 → low ≤ n → n ≤ high → number_within low high otherwise (number_of_text (without_minus (decimal n))) ≡ n
+within_number low high otherwise n small least most =
+    within_said low high otherwise (number_of_text (without_minus (decimal n))) n (said n small) (le-leb low n least) (le-leb n high most)
+
+-- an option that takes a number
+data NumberOption : Type 0 where
+  Workers : NumberOption
+  Levels : NumberOption
+  MaxEvents : NumberOption
+  CheckpointEvery : NumberOption
+
+-- an option of a run
+data RunOption : Type 0 where
+  Number : NumberOption → RunOption
+  Journal : RunOption
+  Sync : RunOption
+
+-- its word
+abbrev bare : RunOption → List ℕ
+bare (Number Workers) = codes "--workers"
+bare (Number Levels) = codes "--levels"
+bare (Number MaxEvents) = codes "--max-events"
+bare (Number CheckpointEvery) = codes "--checkpoint-every"
+bare Journal = codes "--journal"
+bare Sync = codes "--sync"
+
+-- its word with what stands before a value
+abbrev mark : RunOption → List ℕ
+mark (Number Workers) = codes "--workers="
+mark (Number Levels) = codes "--levels="
+mark (Number MaxEvents) = codes "--max-events="
+mark (Number CheckpointEvery) = codes "--checkpoint-every="
+mark Journal = codes "--journal="
+mark Sync = codes "--sync="
+
+-- whether clap takes the value
+abbrev is_taken : RunOption → List ℕ → Bool
+is_taken (Number Workers) text = accepts false (Signed (pos 1) (pos 64)) text
+is_taken (Number Levels) text = accepts false (Signed (pos 0) (pos 8)) text
+is_taken (Number MaxEvents) text = accepts false (Signed (pos 0) (pos 1048576)) text
+is_taken (Number CheckpointEvery) text = accepts false (Signed (pos 1) (pos 1048576)) text
+is_taken Journal text = nat_lt 0 (length text)
+is_taken Sync text = true
+
+-- what a number is missing that is taken
+abbrev missing : NumberOption → Kinds
+missing CheckpointEvery = MissingRequiredArgument ∷ []
+missing o = []
+
+-- the number that is meant
+abbrev meant : NumberOption → Option ℕ → ℕ
+meant Workers o = number_within 1 64 2 o
+meant Levels o = number_within 0 8 0 o
+meant MaxEvents o = number_within 0 1048576 1048576 o
+meant CheckpointEvery o = number_within 1 1048576 500000 o
+
+abbrev with_number : NumberOption → ℕ → Options
+with_number Workers n = record default_options { workers = n }
+with_number Levels n = record default_options { levels = n }
+with_number MaxEvents n = record default_options { max_events = n }
+with_number CheckpointEvery n = record default_options { checkpoint_every = n }
+
+-- ---- a number alone after `run`
+
+abbrev number_words : NumberOption → List ℕ → List ℕ → List (List ℕ)
+number_words o name text = name ∷ codes "run" ∷ (mark (Number o) ++ text) ∷ []
+
+number_passed : (o : NumberOption) (name text : List ℕ) → is_taken (Number o) text ≡ true → fault_of command_line (number_words o name text) ≡ []
 unfolding clap_on_literals
-workers_passed name text h = rw h refl
+number_passed Workers name text h = rw h refl
+number_passed o name text h = rw h refl
 
-workers_unfaulted : (name text : List ℕ) → request_fault (subcommand_of command_line (name ∷ codes "run" ∷ (codes "--workers=" ++ text) ∷ [])) ≡ []
+number_refused : (o : NumberOption) (name text : List ℕ) → is_taken (Number o) text ≡ false → are_mistakes (fault_of command_line (number_words o name text)) ≡ true
 unfolding clap_on_literals
-workers_unfaulted name text = refl
+number_refused Workers name text h = rw h refl
+number_refused o name text h = rw h refl
 
-workers_taken : (name text : List ℕ) → accepts false (Signed (pos 1) (pos 64)) text ≡ true → answers_of (name ∷ codes "run" ∷ (codes "--workers=" ++ text) ∷ []) ≡ []
-workers_taken name text h = request_kinds (name ∷ codes "run" ∷ (codes "--workers=" ++ text) ∷ []) [] (workers_passed name text h) (workers_unfaulted name text)
-
-workers_refused : (name text : List ℕ) → accepts false (Signed (pos 1) (pos 64)) text ≡ false
-    → are_mistakes (fault_of command_line (name ∷ codes "run" ∷ (codes "--workers=" ++ text) ∷ [])) ≡ true
+number_faulted : (o : NumberOption) (name text : List ℕ) → request_fault (subcommand_of command_line (number_words o name text)) ≡ missing o
 unfolding clap_on_literals
-workers_refused name text h = rw h refl
+number_faulted Workers name text = refl
+number_faulted o name text = refl
 
-workers_asked : (name text : List ℕ)
-    → request_of (name ∷ codes "run" ∷ (codes "--workers=" ++ text) ∷ []) ≡ Run (record default_options { workers = number_within 1 64 2 (number_of_text (without_minus text)) })
+number_asked : (o : NumberOption) (name text : List ℕ) → request_of (number_words o name text) ≡ Run (with_number o (meant o (number_of_text (without_minus text))))
 unfolding request_of clap_on_literals
-workers_asked name text = refl
+number_asked Workers name text = refl
+number_asked o name text = refl
 
-workers_said : (name text : List ℕ) (n : ℕ) → number_of_text (without_minus text) ≡ Some n → nat_le 1 n ≡ true → nat_le n 64 ≡ true
-    → request_of (name ∷ codes "run" ∷ (codes "--workers=" ++ text) ∷ []) ≡ Run (record default_options { workers = n })
-workers_said name text n h least most =
-    workers_asked name text ∙ ap (λ (k : ℕ). Run (record default_options { workers = k })) (within_said 1 64 2 (number_of_text (without_minus text)) n h least most)
+number_kinds : (o : NumberOption) (name text : List ℕ) → is_taken (Number o) text ≡ true → answers_of (number_words o name text) ≡ missing o
+number_kinds o name text h = request_kinds (number_words o name text) (missing o) (number_passed o name text h) (number_faulted o name text)
 
--- twice
-workers_first : (first : List ℕ) → (first_turn (codes "--workers=" ++ first) ≡ []) ⊎ (are_mistakes (first_turn (codes "--workers=" ++ first)) ≡ true)
+number_taken : (o : NumberOption) (name : List ℕ) (n : ℕ) → is_taken (Number o) (decimal n) ≡ true → meant o (number_of_text (without_minus (decimal n))) ≡ n
+    → (answers_of (number_words o name (decimal n)) ≡ missing o) × (request_of (number_words o name (decimal n)) ≡ Run (with_number o n))
+number_taken o name n h is = (number_kinds o name (decimal n) h, number_asked o name (decimal n) ∙ ap (λ (k : ℕ). Run (with_number o k)) is)
+
+number_mistaken : (o : NumberOption) (name text : List ℕ) → is_taken (Number o) text ≡ false → are_mistakes (answers_of (number_words o name text)) ≡ true
+number_mistaken o name text h = mistaken_words (number_words o name text) (number_refused o name text h)
+
+-- ---- an option twice
+
+first_taken : (o : RunOption) (text : List ℕ) → is_taken o text ≡ true → first_turn (mark o ++ text) ≡ []
 unfolding clap_on_literals
-workers_first first = go (accepts false (Signed (pos 1) (pos 64)) first) refl
+first_taken Sync text h = refl
+first_taken (Number Workers) text h = rw h refl
+first_taken o text h = rw h refl
+
+first_refused : (o : RunOption) (text : List ℕ) → is_taken o text ≡ false → are_mistakes (first_turn (mark o ++ text)) ≡ true
+unfolding clap_on_literals
+first_refused Sync text h = absurd cc
+first_refused (Number Workers) text h = rw h refl
+first_refused o text h = rw h refl
+
+either_first : (o : RunOption) (text : List ℕ) → (first_turn (mark o ++ text) ≡ []) ⊎ (are_mistakes (first_turn (mark o ++ text)) ≡ true)
+either_first o text = go (is_taken o text) refl
   where
-    go : (b : Bool) → accepts false (Signed (pos 1) (pos 64)) first ≡ b → (first_turn (codes "--workers=" ++ first) ≡ []) ⊎ (are_mistakes (first_turn (codes "--workers=" ++ first)) ≡ true)
-    go true is = inl (rw is refl)
-    go false is = inr (rw is refl)
+    go : (b : Bool) → is_taken o text ≡ b → (first_turn (mark o ++ text) ≡ []) ⊎ (are_mistakes (first_turn (mark o ++ text)) ≡ true)
+    go true is = inl (first_taken o text is)
+    go false is = inr (first_refused o text is)
 
-workers_second : (first second : List ℕ) → are_mistakes (second_turn (codes "--workers=" ++ first) (codes "--workers=" ++ second)) ≡ true
+second_refused : (o : RunOption) (first second : List ℕ) → are_mistakes (second_turn (mark o ++ first) (mark o ++ second)) ≡ true
 unfolding clap_on_literals walked
-workers_second first second = refl
+second_refused (Number Workers) first second = refl
+second_refused o first second = refl
 
-workers_twice : (name first second : List ℕ) → are_mistakes (fault_of command_line (name ∷ codes "run" ∷ (codes "--workers=" ++ first) ∷ (codes "--workers=" ++ second) ∷ [])) ≡ true
-workers_twice name first second =
-    level_mistaken name ((codes "--workers=" ++ first) ∷ (codes "--workers=" ++ second) ∷ [])
-    (second_mistaken (codes "--workers=" ++ first) (codes "--workers=" ++ second) (workers_first first) (workers_second first second))
+twice : (o : RunOption) (name first second : List ℕ) → are_mistakes (answers_of (run_twice name (mark o) first second)) ≡ true
+twice o name first second =
+    mistaken_words (run_twice name (mark o) first second)
+    (level_mistaken name ((mark o ++ first) ∷ (mark o ++ second) ∷ [])
+    (second_mistaken (mark o ++ first) (mark o ++ second) (either_first o first) (second_refused o first second)))
 
--- without `run`
-workers_alone : (name : List ℕ) (rest : List (List ℕ)) → are_mistakes (fault_of command_line (name ∷ codes "--workers" ∷ rest)) ≡ true
+-- ---- an option without `run`
+
+unled : (o : RunOption) (name : List ℕ) (rest : List (List ℕ)) → are_mistakes (fault_of command_line (name ∷ bare o ∷ rest)) ≡ true
 unfolding clap_on_literals
-workers_alone name rest = refl
+unled (Number Workers) name rest = refl
+unled o name rest = refl
 
--- `--levels=TEXT`
-levels_passed : (name text : List ℕ) → accepts false (Signed (pos 0) (pos 8)) text ≡ true → fault_of command_line (name ∷ codes "run" ∷ (codes "--levels=" ++ text) ∷ []) ≡ []
-unfolding clap_on_literals
-levels_passed name text h = rw h refl
-
-levels_unfaulted : (name text : List ℕ) → request_fault (subcommand_of command_line (name ∷ codes "run" ∷ (codes "--levels=" ++ text) ∷ [])) ≡ []
-unfolding clap_on_literals
-levels_unfaulted name text = refl
-
-levels_taken : (name text : List ℕ) → accepts false (Signed (pos 0) (pos 8)) text ≡ true → answers_of (name ∷ codes "run" ∷ (codes "--levels=" ++ text) ∷ []) ≡ []
-levels_taken name text h = request_kinds (name ∷ codes "run" ∷ (codes "--levels=" ++ text) ∷ []) [] (levels_passed name text h) (levels_unfaulted name text)
-
-levels_refused : (name text : List ℕ) → accepts false (Signed (pos 0) (pos 8)) text ≡ false
-    → are_mistakes (fault_of command_line (name ∷ codes "run" ∷ (codes "--levels=" ++ text) ∷ [])) ≡ true
-unfolding clap_on_literals
-levels_refused name text h = rw h refl
-
-levels_asked : (name text : List ℕ)
-    → request_of (name ∷ codes "run" ∷ (codes "--levels=" ++ text) ∷ []) ≡ Run (record default_options { levels = number_within 0 8 0 (number_of_text (without_minus text)) })
-unfolding request_of clap_on_literals
-levels_asked name text = refl
-
-levels_said : (name text : List ℕ) (n : ℕ) → number_of_text (without_minus text) ≡ Some n → nat_le 0 n ≡ true → nat_le n 8 ≡ true
-    → request_of (name ∷ codes "run" ∷ (codes "--levels=" ++ text) ∷ []) ≡ Run (record default_options { levels = n })
-levels_said name text n h least most =
-    levels_asked name text ∙ ap (λ (k : ℕ). Run (record default_options { levels = k })) (within_said 0 8 0 (number_of_text (without_minus text)) n h least most)
-
--- twice
-levels_first : (first : List ℕ) → (first_turn (codes "--levels=" ++ first) ≡ []) ⊎ (are_mistakes (first_turn (codes "--levels=" ++ first)) ≡ true)
-unfolding clap_on_literals
-levels_first first = go (accepts false (Signed (pos 0) (pos 8)) first) refl
-  where
-    go : (b : Bool) → accepts false (Signed (pos 0) (pos 8)) first ≡ b → (first_turn (codes "--levels=" ++ first) ≡ []) ⊎ (are_mistakes (first_turn (codes "--levels=" ++ first)) ≡ true)
-    go true is = inl (rw is refl)
-    go false is = inr (rw is refl)
-
-levels_second : (first second : List ℕ) → are_mistakes (second_turn (codes "--levels=" ++ first) (codes "--levels=" ++ second)) ≡ true
-unfolding clap_on_literals walked
-levels_second first second = refl
-
-levels_twice : (name first second : List ℕ) → are_mistakes (fault_of command_line (name ∷ codes "run" ∷ (codes "--levels=" ++ first) ∷ (codes "--levels=" ++ second) ∷ [])) ≡ true
-levels_twice name first second =
-    level_mistaken name ((codes "--levels=" ++ first) ∷ (codes "--levels=" ++ second) ∷ [])
-    (second_mistaken (codes "--levels=" ++ first) (codes "--levels=" ++ second) (levels_first first) (levels_second first second))
-
--- without `run`
-levels_alone : (name : List ℕ) (rest : List (List ℕ)) → are_mistakes (fault_of command_line (name ∷ codes "--levels" ∷ rest)) ≡ true
-unfolding clap_on_literals
-levels_alone name rest = refl
-
--- `--max-events=TEXT`
-max_events_passed : (name text : List ℕ) → accepts false (Signed (pos 0) (pos 1048576)) text ≡ true → fault_of command_line (name ∷ codes "run" ∷ (codes "--max-events=" ++ text) ∷ []) ≡ []
-unfolding clap_on_literals
-max_events_passed name text h = rw h refl
-
-max_events_unfaulted : (name text : List ℕ) → request_fault (subcommand_of command_line (name ∷ codes "run" ∷ (codes "--max-events=" ++ text) ∷ [])) ≡ []
-unfolding clap_on_literals
-max_events_unfaulted name text = refl
-
-max_events_taken : (name text : List ℕ) → accepts false (Signed (pos 0) (pos 1048576)) text ≡ true → answers_of (name ∷ codes "run" ∷ (codes "--max-events=" ++ text) ∷ []) ≡ []
-max_events_taken name text h = request_kinds (name ∷ codes "run" ∷ (codes "--max-events=" ++ text) ∷ []) [] (max_events_passed name text h) (max_events_unfaulted name text)
-
-max_events_refused : (name text : List ℕ) → accepts false (Signed (pos 0) (pos 1048576)) text ≡ false
-    → are_mistakes (fault_of command_line (name ∷ codes "run" ∷ (codes "--max-events=" ++ text) ∷ [])) ≡ true
-unfolding clap_on_literals
-max_events_refused name text h = rw h refl
-
-max_events_asked : (name text : List ℕ)
-    → request_of (name ∷ codes "run" ∷ (codes "--max-events=" ++ text) ∷ []) ≡ Run (record default_options { max_events = number_within 0 1048576 1048576 (number_of_text (without_minus text)) })
-unfolding request_of clap_on_literals
-max_events_asked name text = refl
-
-max_events_said : (name text : List ℕ) (n : ℕ) → number_of_text (without_minus text) ≡ Some n → nat_le 0 n ≡ true → nat_le n 1048576 ≡ true
-    → request_of (name ∷ codes "run" ∷ (codes "--max-events=" ++ text) ∷ []) ≡ Run (record default_options { max_events = n })
-max_events_said name text n h least most =
-    max_events_asked name text ∙ ap (λ (k : ℕ). Run (record default_options { max_events = k })) (within_said 0 1048576 1048576 (number_of_text (without_minus text)) n h least most)
-
--- twice
-max_events_first : (first : List ℕ) → (first_turn (codes "--max-events=" ++ first) ≡ []) ⊎ (are_mistakes (first_turn (codes "--max-events=" ++ first)) ≡ true)
-unfolding clap_on_literals
-max_events_first first = go (accepts false (Signed (pos 0) (pos 1048576)) first) refl
-  where
-    go : (b : Bool) → accepts false (Signed (pos 0) (pos 1048576)) first ≡ b → (first_turn (codes "--max-events=" ++ first) ≡ []) ⊎ (are_mistakes (first_turn (codes "--max-events=" ++ first)) ≡ true)
-    go true is = inl (rw is refl)
-    go false is = inr (rw is refl)
-
-max_events_second : (first second : List ℕ) → are_mistakes (second_turn (codes "--max-events=" ++ first) (codes "--max-events=" ++ second)) ≡ true
-unfolding clap_on_literals walked
-max_events_second first second = refl
-
-max_events_twice : (name first second : List ℕ) → are_mistakes (fault_of command_line (name ∷ codes "run" ∷ (codes "--max-events=" ++ first) ∷ (codes "--max-events=" ++ second) ∷ [])) ≡ true
-max_events_twice name first second =
-    level_mistaken name ((codes "--max-events=" ++ first) ∷ (codes "--max-events=" ++ second) ∷ [])
-    (second_mistaken (codes "--max-events=" ++ first) (codes "--max-events=" ++ second) (max_events_first first) (max_events_second first second))
-
--- without `run`
-max_events_alone : (name : List ℕ) (rest : List (List ℕ)) → are_mistakes (fault_of command_line (name ∷ codes "--max-events" ∷ rest)) ≡ true
-unfolding clap_on_literals
-max_events_alone name rest = refl
-
--- `--journal=TEXT` and `--sync=TEXT` twice
-journal_first : (first : List ℕ) → (first_turn (codes "--journal=" ++ first) ≡ []) ⊎ (are_mistakes (first_turn (codes "--journal=" ++ first)) ≡ true)
-unfolding clap_on_literals
-journal_first first = go (nat_lt 0 (length first)) refl
-  where
-    go : (b : Bool) → nat_lt 0 (length first) ≡ b → (first_turn (codes "--journal=" ++ first) ≡ []) ⊎ (are_mistakes (first_turn (codes "--journal=" ++ first)) ≡ true)
-    go true is = inl (rw is refl)
-    go false is = inr (rw is refl)
-
-journal_second : (first second : List ℕ) → are_mistakes (second_turn (codes "--journal=" ++ first) (codes "--journal=" ++ second)) ≡ true
-unfolding clap_on_literals walked
-journal_second first second = refl
-
-journal_twice : (name first second : List ℕ) → are_mistakes (fault_of command_line (name ∷ codes "run" ∷ (codes "--journal=" ++ first) ∷ (codes "--journal=" ++ second) ∷ [])) ≡ true
-journal_twice name first second =
-    level_mistaken name ((codes "--journal=" ++ first) ∷ (codes "--journal=" ++ second) ∷ [])
-    (second_mistaken (codes "--journal=" ++ first) (codes "--journal=" ++ second) (journal_first first) (journal_second first second))
-
-sync_twice : (name first second : List ℕ) → are_mistakes (fault_of command_line (name ∷ codes "run" ∷ (codes "--sync=" ++ first) ∷ (codes "--sync=" ++ second) ∷ [])) ≡ true
-unfolding clap_on_literals
-sync_twice name first second = refl
-
-checkpoint_first : (first : List ℕ) → (first_turn (codes "--checkpoint-every=" ++ first) ≡ []) ⊎ (are_mistakes (first_turn (codes "--checkpoint-every=" ++ first)) ≡ true)
-unfolding clap_on_literals
-checkpoint_first first = go (accepts false (Signed (pos 1) (pos 1048576)) first) refl
-  where
-    go : (b : Bool) → accepts false (Signed (pos 1) (pos 1048576)) first ≡ b → (first_turn (codes "--checkpoint-every=" ++ first) ≡ []) ⊎ (are_mistakes (first_turn (codes "--checkpoint-every=" ++ first)) ≡ true)
-    go true is = inl (rw is refl)
-    go false is = inr (rw is refl)
-
-checkpoint_second : (first second : List ℕ) → are_mistakes (second_turn (codes "--checkpoint-every=" ++ first) (codes "--checkpoint-every=" ++ second)) ≡ true
-unfolding clap_on_literals walked
-checkpoint_second first second = refl
-
-checkpoint_twice : (name first second : List ℕ) → are_mistakes (fault_of command_line (name ∷ codes "run" ∷ (codes "--checkpoint-every=" ++ first) ∷ (codes "--checkpoint-every=" ++ second) ∷ [])) ≡ true
-checkpoint_twice name first second =
-    level_mistaken name ((codes "--checkpoint-every=" ++ first) ∷ (codes "--checkpoint-every=" ++ second) ∷ [])
-    (second_mistaken (codes "--checkpoint-every=" ++ first) (codes "--checkpoint-every=" ++ second) (checkpoint_first first) (checkpoint_second first second))
-
-checkpoint_alone : (name : List ℕ) (rest : List (List ℕ)) → are_mistakes (fault_of command_line (name ∷ codes "--checkpoint-every" ∷ rest)) ≡ true
-unfolding clap_on_literals
-checkpoint_alone name rest = refl
-
-journal_alone : (name : List ℕ) (rest : List (List ℕ)) → are_mistakes (fault_of command_line (name ∷ codes "--journal" ∷ rest)) ≡ true
-unfolding clap_on_literals
-journal_alone name rest = refl
-
-sync_alone : (name : List ℕ) (rest : List (List ℕ)) → are_mistakes (fault_of command_line (name ∷ codes "--sync" ∷ rest)) ≡ true
-unfolding clap_on_literals
-sync_alone name rest = refl
+without_run : (o : RunOption) (name : List ℕ) (rest : List (List ℕ)) → are_mistakes (answers_of (name ∷ bare o ∷ rest)) ≡ true
+without_run o name rest = mistaken_words (name ∷ bare o ∷ rest) (unled o name rest)
 
 -- ---- numbers
 
 pub numbers_are_taken : NumbersAreTaken
 numbers_are_taken name n = (
-  (λ least most. (
-    workers_taken name (decimal n) (accepted 1 64 n (omega arith) least most),
-    workers_said name (decimal n) n (said n (omega arith)) (le-leb 1 n least) (le-leb n 64 most),
-  )),
-  (λ most. (
-    levels_taken name (decimal n) (accepted 0 8 n (omega arith) (omega arith) most),
-    levels_said name (decimal n) n (said n (omega arith)) (le-leb 0 n (omega arith)) (le-leb n 8 most),
-  )),
-  (λ most. (
-    max_events_taken name (decimal n) (accepted 0 1048576 n (omega arith) (omega arith) most),
-    max_events_said name (decimal n) n (said n (omega arith)) (le-leb 0 n (omega arith)) (le-leb n 1048576 most),
-  )),
+  (λ least most. number_taken Workers name n (accepted 1 64 n (omega arith) least most) (within_number 1 64 2 n (omega arith) least most)),
+  (λ most. number_taken Levels name n (accepted 0 8 n (omega arith) (omega arith) most) (within_number 0 8 0 n (omega arith) (omega arith) most)),
+  (λ most. number_taken MaxEvents name n (accepted 0 1048576 n (omega arith) (omega arith) most) (within_number 0 1048576 1048576 n (omega arith) (omega arith) most)),
 )
 
 pub others_are_refused : OthersAreRefused
 others_are_refused name n h = (
-  (λ outside. mistaken_words (run_with name (codes "--workers=") n) (workers_refused name (decimal n) (refused 1 64 n h outside))),
-  (λ above. mistaken_words (run_with name (codes "--levels=") n) (levels_refused name (decimal n) (refused 0 8 n h (λ least most. omega arith)))),
-  (λ above. mistaken_words (run_with name (codes "--max-events=") n) (max_events_refused name (decimal n) (refused 0 1048576 n h (λ least most. omega arith)))),
+  (λ outside. number_mistaken Workers name (decimal n) (refused 1 64 n h outside)),
+  (λ above. number_mistaken Levels name (decimal n) (refused 0 8 n h (λ least most. omega arith))),
+  (λ above. number_mistaken MaxEvents name (decimal n) (refused 0 1048576 n h (λ least most. omega arith))),
 )
 
 pub no_option_twice : NoOptionTwice
 no_option_twice name first second = (
-  mistaken_words (run_twice name (codes "--workers=") first second) (workers_twice name first second),
-  mistaken_words (run_twice name (codes "--levels=") first second) (levels_twice name first second),
-  mistaken_words (run_twice name (codes "--max-events=") first second) (max_events_twice name first second),
-  mistaken_words (run_twice name (codes "--journal=") first second) (journal_twice name first second),
-  mistaken_words (run_twice name (codes "--sync=") first second) (sync_twice name first second),
-  mistaken_words (run_twice name (codes "--checkpoint-every=") first second) (checkpoint_twice name first second),
+  twice (Number Workers) name first second,
+  twice (Number Levels) name first second,
+  twice (Number MaxEvents) name first second,
+  twice Journal name first second,
+  twice Sync name first second,
+  twice (Number CheckpointEvery) name first second,
 )
 
 pub options_need_run : OptionsNeedRun
 options_need_run name rest = (
-  mistaken_words (name ∷ codes "--workers" ∷ rest) (workers_alone name rest),
-  mistaken_words (name ∷ codes "--levels" ∷ rest) (levels_alone name rest),
-  mistaken_words (name ∷ codes "--max-events" ∷ rest) (max_events_alone name rest),
-  mistaken_words (name ∷ codes "--journal" ∷ rest) (journal_alone name rest),
-  mistaken_words (name ∷ codes "--sync" ∷ rest) (sync_alone name rest),
-  mistaken_words (name ∷ codes "--checkpoint-every" ∷ rest) (checkpoint_alone name rest),
+  without_run (Number Workers) name rest,
+  without_run (Number Levels) name rest,
+  without_run (Number MaxEvents) name rest,
+  without_run Journal name rest,
+  without_run Sync name rest,
+  without_run (Number CheckpointEvery) name rest,
 )
 
 -- ---- `--journal=FILE --checkpoint-every=TEXT`
 
 abbrev kept : List ℕ → List ℕ → List ℕ → List (List ℕ)
 kept name file text = name ∷ codes "run" ∷ (codes "--journal=" ++ file) ∷ (codes "--checkpoint-every=" ++ text) ∷ []
-
-kept_first : (file : List ℕ) → nat_lt 0 (length file) ≡ true → first_turn (codes "--journal=" ++ file) ≡ []
-unfolding clap_on_literals
-kept_first file h = rw h refl
 
 kept_second : (file text : List ℕ) → accepts false (Signed (pos 1) (pos 1048576)) text ≡ true → second_turn (codes "--journal=" ++ file) (codes "--checkpoint-every=" ++ text) ≡ []
 unfolding clap_on_literals walked
@@ -360,14 +286,14 @@ kept_last file text = refl
 kept_passed : (name file text : List ℕ) → nat_lt 0 (length file) ≡ true → accepts false (Signed (pos 1) (pos 1048576)) text ≡ true → fault_of command_line (kept name file text) ≡ []
 kept_passed name file text f h =
     level_passed name ((codes "--journal=" ++ file) ∷ (codes "--checkpoint-every=" ++ text) ∷ [])
-    (both_taken (codes "--journal=" ++ file) (codes "--checkpoint-every=" ++ text) (kept_first file f) (kept_second file text h) (kept_last file text))
+    (both_taken (codes "--journal=" ++ file) (codes "--checkpoint-every=" ++ text) (first_taken Journal file f) (kept_second file text h) (kept_last file text))
 
 kept_unfaulted : (name file text : List ℕ) → request_fault (subcommand_of command_line (kept name file text)) ≡ []
 unfolding clap_on_literals
 kept_unfaulted name file text = refl
 
 kept_asked : (name file text : List ℕ)
-    → request_of (kept name file text) ≡ RunOn (record default_options { checkpoint_every = number_within 1 1048576 500000 (number_of_text (without_minus text)) }) Full file
+    → request_of (kept name file text) ≡ RunOn (with_number CheckpointEvery (meant CheckpointEvery (number_of_text (without_minus text)))) Full file
 unfolding request_of clap_on_literals
 kept_asked name file text = refl
 
@@ -379,7 +305,7 @@ kept_wrong file text h = rw h refl
 kept_refused : (name file text : List ℕ) → accepts false (Signed (pos 1) (pos 1048576)) text ≡ false → are_mistakes (fault_of command_line (kept name file text)) ≡ true
 kept_refused name file text h =
     level_mistaken name ((codes "--journal=" ++ file) ∷ (codes "--checkpoint-every=" ++ text) ∷ [])
-    (second_mistaken (codes "--journal=" ++ file) (codes "--checkpoint-every=" ++ text) (journal_first file) (kept_wrong file text h))
+    (second_mistaken (codes "--journal=" ++ file) (codes "--checkpoint-every=" ++ text) (either_first Journal file) (kept_wrong file text h))
 
 pub checkpoints_are_taken : CheckpointsAreTaken
 checkpoints_are_taken name first rest n least most = (
@@ -387,34 +313,17 @@ checkpoints_are_taken name first rest n least most = (
       (kept_passed name (first ∷ rest) (decimal n) (lt-ltb 0 (length (first ∷ rest)) (omega arith)) (accepted 1 1048576 n (omega arith) least most))
       (kept_unfaulted name (first ∷ rest) (decimal n)),
   kept_asked name (first ∷ rest) (decimal n)
-      ∙ ap (λ (k : ℕ). RunOn (record default_options { checkpoint_every = k }) Full (first ∷ rest))
-      (within_said 1 1048576 500000 (number_of_text (without_minus (decimal n))) n (said n (omega arith)) (le-leb 1 n least) (le-leb n 1048576 most)),
+      ∙ ap (λ (k : ℕ). RunOn (with_number CheckpointEvery k) Full (first ∷ rest)) (within_number 1 1048576 500000 n (omega arith) least most),
 )
 
 pub other_checkpoints_are_refused : OtherCheckpointsAreRefused
 other_checkpoints_are_refused name file n h outside =
     mistaken_words (run_checkpointed name file n) (kept_refused name file (decimal n) (refused 1 1048576 n h outside))
 
--- ---- `--checkpoint-every=TEXT` alone
-
-abbrev unkept : List ℕ → List ℕ → List (List ℕ)
-unkept name text = name ∷ codes "run" ∷ (codes "--checkpoint-every=" ++ text) ∷ []
-
-unkept_passed : (name text : List ℕ) → accepts false (Signed (pos 1) (pos 1048576)) text ≡ true → fault_of command_line (unkept name text) ≡ []
-unfolding clap_on_literals
-unkept_passed name text h = rw h refl
-
-unkept_faulted : (name text : List ℕ) → request_fault (subcommand_of command_line (unkept name text)) ≡ MissingRequiredArgument ∷ []
-unfolding clap_on_literals
-unkept_faulted name text = refl
-
-unkept_refused : (name text : List ℕ) → accepts false (Signed (pos 1) (pos 1048576)) text ≡ false → are_mistakes (fault_of command_line (unkept name text)) ≡ true
-unfolding clap_on_literals
-unkept_refused name text h = rw h refl
-
+-- without a journal
 pub checkpoints_need_journals : CheckpointsNeedJournals
-checkpoints_need_journals name text = go (accepts false (Signed (pos 1) (pos 1048576)) text) refl
+checkpoints_need_journals name text = go (is_taken (Number CheckpointEvery) text) refl
   where
-    go : (b : Bool) → accepts false (Signed (pos 1) (pos 1048576)) text ≡ b → are_mistakes (answers_of (unkept name text)) ≡ true
-    go true is = ap are_mistakes (request_kinds (unkept name text) (MissingRequiredArgument ∷ []) (unkept_passed name text is) (unkept_faulted name text))
-    go false is = mistaken_words (unkept name text) (unkept_refused name text is)
+    go : (b : Bool) → is_taken (Number CheckpointEvery) text ≡ b → are_mistakes (answers_of (number_words CheckpointEvery name text)) ≡ true
+    go true is = ap are_mistakes (number_kinds CheckpointEvery name text is)
+    go false is = number_mistaken CheckpointEvery name text is
