@@ -36,7 +36,7 @@ use Rattle.stm_events.proofs.SinceFrom.{IsSinceFrom, IsSinceBefore}
 use Rattle.stm_events.proofs.TypedStores.{typed_after, typed_verdict}
 use Rattle.stm_desk.specs.declared.reason.Change.{Change}
 use Rattle.stm_desk.specs.Reasons.{changes_from, ticket_of, Cause, cause_or, first_cause, cause_since_delivery, was_stale}
-use Rattle.stm_desk.specs.ReasonsTold.{left_by_verdict, HasWritable, IsWritable, EachIsWritable, changes_told, cause_told, events_since}
+use Rattle.stm_desk.specs.ReasonsByEvents.{left_by_verdict, HasWritable, IsWritable, EachIsWritable, changes_told, cause_told, events_since}
 use Rattle.stm_desk.proofs.EventsSince.{installed_mid, since_delivery, cause_after, none_since}
 use Rattle.stm_desk.proofs.ReadValues.{AreRead, reads_are, found_read, unchanged, is_within, are_left}
 use Rattle.stm_desk.proofs.Starts.{IsTypedHistory}

@@ -9,7 +9,7 @@ use Rattle.stm_events.specs.declared.event.Event.{Event}
 use Rattle.stm_events.specs.Headline.{installs_to, is_installed}
 use Rattle.stm_events.specs.SlowDesk.{Slow, after, state_from}
 use Rattle.stm_desk.specs.Reasons.{first_cause, cause_since_delivery}
-use Rattle.stm_desk.specs.ReasonsTold.{events_since}
+use Rattle.stm_desk.specs.ReasonsByEvents.{events_since}
 
 -- ---- no delivery
 pub none_since : (t : ℕ) (h : List Event) → is_installed t h ≡ false → events_since t h ≡ None

@@ -24,7 +24,7 @@ use Rattle.stm_machine.specs.declared.checkpoint.CheckpointBlock.{CheckpointBloc
 use Rattle.stm_machine.specs.Checkpoints.{IsKeptCause, MayHaveCause, MayHaveCauses, MayStart, held_since, block_of_waiter, checkpoint_of, labelled_block, with_labels}
 use Rattle.stm_desk.specs.DeskView.{DeskView, start_state, state_of}
 use Rattle.stm_desk.specs.Reasons.{Cause, cause_again, kept_cause_at, WaitReason, IsStale, Waits, CanFinish, current_reason, was_stale, reason_kept, stale_reason, reason_since, reason_of_waiter, reason_of}
-use Rattle.stm_desk.specs.ReasonsTold.{cause_told, stale_at, stale_told}
+use Rattle.stm_desk.specs.ReasonsByEvents.{cause_told, stale_at, stale_told}
 use Rattle.stm_desk.specs.Checkpointed.{kept_cause, cause_kept, causes_of}
 use Rattle.stm_desk.specs.Causes.{last_listed, reads_under, cause_sought}
 use Rattle.stm_desk.proofs.CausesTold.{fit_all, is_caused, is_caused_before}
@@ -33,7 +33,7 @@ use Rattle.stm_desk.proofs.KeptAt.{kept_of_start}
 use Rattle.stm_desk.proofs.LastLists.{delivered_state, delivered_possible, delivered_legal, delivered_fit, delivered_submits, delivered_typed, delivered_now, delivered_waiting, listed_here, verdict_before, waiting_before, listed_later, listed_never}
 use Rattle.stm_desk.proofs.Listed.{has_reads, or_none}
 use Rattle.stm_desk.proofs.MayKeep.{kept_later, told_may_be_kept}
-use Rattle.stm_desk.proofs.ReasonsTold.{stale_whole}
+use Rattle.stm_desk.proofs.ReasonsByEvents.{stale_whole}
 use Rattle.stm_desk.proofs.StaleBefore.{was_stale_at}
 use Rattle.stm_desk.proofs.Starts.{IsTypedHistory}
 

@@ -21,7 +21,7 @@ use Rattle.stm_events.proofs.Rising.{waiter_delivered}
 use Rattle.stm_events.proofs.SinceFrom.{IsSinceFrom, IsSinceBefore}
 use Rattle.stm_events.proofs.TypedStores.{typed_after, typed_from}
 use Rattle.stm_desk.specs.Reasons.{Cause, was_stale}
-use Rattle.stm_desk.specs.ReasonsTold.{cause_told}
+use Rattle.stm_desk.specs.ReasonsByEvents.{cause_told}
 use Rattle.stm_desk.specs.Checkpointed.{kept_cause}
 use Rattle.stm_desk.specs.Causes.{last_listed}
 use Rattle.stm_desk.proofs.CausesTold.{FitFrom, fit_all, fit_rest, was_current, is_caused}

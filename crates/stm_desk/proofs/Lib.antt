@@ -20,7 +20,7 @@ pub mod ListedReasons
 pub mod MayKeep
 pub mod ReadValues
 pub mod ReasonsStay
-pub mod ReasonsTold
+pub mod ReasonsByEvents
 pub mod Runs
 pub mod Seeking
 pub mod Settles

@@ -27,7 +27,7 @@ use Rattle.stm_events.proofs.Possible.{possible_after}
 use Rattle.stm_events.proofs.Rising.{low, not_above, rising_without, waiter_without, waiter_delivered, waiter_marks, waiter_push}
 use Rattle.stm_desk.specs.declared.reason.Change.{Change}
 use Rattle.stm_desk.specs.Reasons.{ticket_of, Cause, cause_or}
-use Rattle.stm_desk.specs.ReasonsTold.{changes_told, cause_told}
+use Rattle.stm_desk.specs.ReasonsByEvents.{changes_told, cause_told}
 use Rattle.stm_desk.specs.Checkpointed.{kept_cause}
 use Rattle.stm_desk.specs.Causes.{cause_listed, has_in_list, last_listed}
 use Rattle.stm_desk.proofs.CausesTold.{FitsHere, FitFrom, told_here, not_woken, none_met, found_by}

@@ -18,13 +18,13 @@ use Rattle.stm_events.proofs.SinceFrom.{tracked_from}
 use Rattle.stm_machine.specs.Checkpoints.{MayStart}
 use Rattle.stm_desk.specs.DeskView.{DeskView, start_state, state_of}
 use Rattle.stm_desk.specs.Reasons.{ticket_of, Cause, kept_cause_at, WaitReason, IsStale, reason_kept, reason_of}
-use Rattle.stm_desk.specs.ReasonsTold.{IsWritable, EachIsWritable, changes_told, events_since, stale_at, reason_listed}
+use Rattle.stm_desk.specs.ReasonsByEvents.{IsWritable, EachIsWritable, changes_told, events_since, stale_at, reason_listed}
 use Rattle.stm_desk.specs.Checkpointed.{kept_cause, cause_kept}
 use Rattle.stm_desk.specs.Causes.{cause_listed, has_in_list, last_with, last_listed}
 use Rattle.stm_desk.proofs.FoundCauses.{found}
 use Rattle.stm_desk.proofs.Listed.{listed_is}
 use Rattle.stm_desk.proofs.ReasonsStay.{what_changes, cause_is, stale_again}
-use Rattle.stm_desk.proofs.ReasonsTold.{stale_whole, has_reason}
+use Rattle.stm_desk.proofs.ReasonsByEvents.{stale_whole, has_reason}
 use Rattle.stm_desk.proofs.Starts.{IsTypedHistory}
 
 -- ---- a scan from the end

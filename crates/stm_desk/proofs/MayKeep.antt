@@ -27,7 +27,7 @@ use Rattle.stm_machine.specs.Checkpoints.{store_with, all_differ, IsKeptCause}
 use Rattle.stm_machine.proofs.StoreWith.{has_values, same_kinds, values_fit}
 use Rattle.stm_desk.specs.declared.reason.Change.{Change}
 use Rattle.stm_desk.specs.Reasons.{changes_from, ticket_of, Cause, cause_or}
-use Rattle.stm_desk.specs.ReasonsTold.{changes_told, cause_told}
+use Rattle.stm_desk.specs.ReasonsByEvents.{changes_told, cause_told}
 use Rattle.stm_desk.specs.Checkpointed.{kept_cause}
 use Rattle.stm_desk.proofs.CausesTold.{FitFrom, told_here}
 use Rattle.stm_desk.proofs.KeptAgain.{lefts, lefts_rise, lefts_agree, lefts_differ}

@@ -17,7 +17,7 @@ use Rattle.stm_store.proofs.Lookups.{is_applied}
 use Rattle.stm_events.specs.SlowDesk.{under}
 use Rattle.stm_desk.specs.declared.reason.Change.{Change}
 use Rattle.stm_desk.specs.Reasons.{change_to, changes_from}
-use Rattle.stm_desk.specs.ReasonsTold.{left_by_verdict}
+use Rattle.stm_desk.specs.ReasonsByEvents.{left_by_verdict}
 
 -- each of these reads has its value
 abbrev pub AreRead : List (ℕ × Value) → Variables → Type 0

@@ -24,10 +24,10 @@ use Rattle.stm_waiting.specs.declared.waiting.Held.{Held}
 use Rattle.stm_desk.specs.declared.reason.Change.{Change}
 use Rattle.stm_desk.specs.DeskView.{DeskView, start_state, state_of, labels_of}
 use Rattle.stm_desk.specs.Reasons.{changes_from, ticket_of, Cause, cause_or, cause_again, kept_cause_in, kept_cause_at, WaitReason, IsStale, current_reason, was_stale, reason_kept, stale_reason, reason_since, reason_of_waiter, reason_of}
-use Rattle.stm_desk.specs.ReasonsTold.{left_by_verdict, changes_told, cause_told, events_since, stale_at, stale_told}
+use Rattle.stm_desk.specs.ReasonsByEvents.{left_by_verdict, changes_told, cause_told, events_since, stale_at, stale_told}
 use Rattle.stm_desk.specs.Checkpointed.{kept_cause, cause_kept, causes_of, checkpoint_now, checkpointed, ReasonsStay}
 use Rattle.stm_desk.proofs.KeptAgain.{lefts, changes_again}
-use Rattle.stm_desk.proofs.ReasonsTold.{found_ticket, stale_whole, has_reason}
+use Rattle.stm_desk.proofs.ReasonsByEvents.{found_ticket, stale_whole, has_reason}
 use Rattle.stm_desk.proofs.ReadValues.{none_left}
 use Rattle.stm_desk.proofs.Starts.{IsTypedHistory}
 

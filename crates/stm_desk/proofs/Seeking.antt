@@ -10,7 +10,7 @@ use Rattle.stm_events.specs.declared.event.Event.{Event}
 use Rattle.stm_events.specs.declared.kept_cause.KeptCause.{KeptCause}
 use Rattle.stm_machine.specs.declared.checkpoint.CheckpointBlock.{CheckpointBlock}
 use Rattle.stm_desk.specs.Reasons.{kept_cause_in}
-use Rattle.stm_desk.specs.ReasonsTold.{IsWritable, EachIsWritable}
+use Rattle.stm_desk.specs.ReasonsByEvents.{IsWritable, EachIsWritable}
 use Rattle.stm_desk.specs.Causes.{cause_in_list, cause_listed, last_listed, has_stale, cause_sought, IsSought}
 use Rattle.stm_desk.proofs.Listed.{last_listed-append}
 

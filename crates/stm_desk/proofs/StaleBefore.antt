@@ -10,7 +10,7 @@ use Rattle.stm_machine.specs.Checkpoints.{CheckpointView, since_held, waiter_of,
 use Rattle.stm_machine.proofs.CheckpointStates.{is_stale_held}
 use Rattle.stm_waiting.specs.declared.waiting.Held.{Held}
 use Rattle.stm_desk.specs.Reasons.{was_stale}
-use Rattle.stm_desk.specs.ReasonsTold.{stale_in, stale_at}
+use Rattle.stm_desk.specs.ReasonsByEvents.{stale_in, stale_at}
 
 twice : (b : Bool) → not (not b) ≡ b
 twice true = refl

@@ -14,7 +14,7 @@ use Rattle.stm_events.specs.SlowDesk.{find_waiter}
 use Rattle.stm_machine.specs.declared.checkpoint.CheckpointBlock.{CheckpointBlock}
 use Rattle.stm_desk.specs.DeskView.{DeskView, state_of}
 use Rattle.stm_desk.specs.Reasons.{changes_from}
-use Rattle.stm_desk.specs.ReasonsTold.{left_by_verdict}
+use Rattle.stm_desk.specs.ReasonsByEvents.{left_by_verdict}
 use Rattle.stm_desk.specs.Checkpointed.{kept_cause}
 
 -- the cause of a block of these reads that a finish with this verdict made stale, in a store that had n cells

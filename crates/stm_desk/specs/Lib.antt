@@ -13,6 +13,6 @@ pub mod Settling
 pub mod Causes
 pub mod Kept
 pub mod Limit
-pub mod ReasonsTold
+pub mod ReasonsByEvents
 pub mod Steps
 pub mod WorkOrders

@@ -7,7 +7,7 @@ ghost use Rattle.stm_events.specs.KeptCauses.{kept_cause_of};
 ghost use Rattle.stm_events.specs.SlowDesk.{find_waiter};
 ghost use Rattle.stm_desk.specs.DeskView.{state_of};
 ghost use Rattle.stm_desk.specs.Reasons.{was_stale, kept_cause_in, kept_cause_at};
-ghost use Rattle.stm_desk.specs.ReasonsTold.{HasWritable, IsWritable, EachIsWritable};
+ghost use Rattle.stm_desk.specs.ReasonsByEvents.{HasWritable, IsWritable, EachIsWritable};
 ghost use Rattle.stm_desk.specs.Checkpointed.{kept_cause, causes_of};
 ghost use Rattle.stm_desk.specs.Causes.{cause_by as kept_by, cause_in_list, cause_listed, last_listed, has_stale, reads_under as read_under, cause_sought, IsSought};
 

@@ -103,7 +103,7 @@ impl Desk {
             (self.new ≡ with_event self.old client (installation_of message)) }
         ensures refused { RefusesDelivery (without_message result) self.old message }
         ensures back { IfErr result (λ e. e.0 ≡ message) }
-        ensures unchanged { IfErr result (λ e.
+        ensures left { IfErr result (λ e.
             self.new ≡ requeued_if_overtaken e.1 (message_ticket message) self.old) }
     {
         match answer {
@@ -133,7 +133,7 @@ impl Desk {
         // Refused for the first reason that holds, or for lack of memory if none does; the message comes back.
         ensures refused { RefusesDelivery (without_message result) self.old message }
         ensures back { IfErr result (λ e. e.0 ≡ message) }
-        ensures unchanged { IfErr result (λ e.
+        ensures left { IfErr result (λ e.
             self.new ≡ requeued_if_overtaken e.1 (message_ticket message) self.old) }
     {
         let answer = self.may_deliver(&message);
@@ -153,7 +153,7 @@ impl Desk {
             (self.new ≡ with_event self.old client (installation_of message)) }
         ensures refused { RefusesDelivery (without_message result) self.old message }
         ensures back { IfErr result (λ e. e.0 ≡ message) }
-        ensures unchanged { IfErr result (λ e.
+        ensures left { IfErr result (λ e.
             self.new ≡ requeued_if_overtaken e.1 (message_ticket message) self.old) }
     {
         let answer = self.may_deliver_own(&message);

@@ -12,7 +12,7 @@ ghost use Rattle.stm_events.specs.SlowDesk.{find_waiter, is_blocks};
 ghost use Rattle.stm_desk.specs.DeskView.{state_of};
 ghost use Rattle.stm_desk.specs.Causes.{has_in_list, last_with};
 ghost use Rattle.stm_desk.specs.Reasons.{change_to, changes_from, kept_cause_in, kept_cause_at, ticket_of as ticket_in, IsStale, Waits as WaitsFor, CanFinish, reason_kept, reason_of};
-ghost use Rattle.stm_desk.specs.ReasonsTold.{left_by_writes, left_by_verdict, HasWritable, IsWritable, EachIsWritable, changes_told as changes_of, reason_listed, told_reason};
+ghost use Rattle.stm_desk.specs.ReasonsByEvents.{left_by_writes, left_by_verdict, HasWritable, IsWritable, EachIsWritable, changes_told as changes_of, reason_listed, shown_reason};
 
 use crate::desk::Desk;
 use crate::reason::{Change, Reason};
@@ -25,11 +25,10 @@ use stm_terms::values::{Ref, Value};
 use stm_terms::verdicts::Verdict;
 
 impl Desk {
-    /// What the block under a ticket waits for; none if no block waits there, and only then. `NoMemory` only if the block is
-    /// stale; then it goes through the events since the block became stale, and through the blocks of the checkpoint if that was
-    /// before it.
+    /// What the block under a ticket waits for; none if no block waits there, and only then. If the block is stale, it goes through the
+    /// events since the block became stale, and through the blocks of the checkpoint if that was before it.
     pub fn why(&self, alloc: Global, ticket: u32) -> Result<Option<Reason<'_>>, NoMemory>
-        ensures reason { IfOk result (λ r. option_map told_reason r ≡ reason_of self.now ticket) }
+        ensures reason { IfOk result (λ r. option_map shown_reason r ≡ reason_of self.now ticket) }
         // A block that waits has a reason; so a stale one has a cause.
         ensures waits { is_some (reason_of self.now ticket)
             ≡ is_some (find_waiter ticket (state_of self.now).waiters) }
@@ -58,7 +57,7 @@ impl Desk {
 
 /// What a current block waits for.
 fn current_reason<'a>(verdict: &Verdict, reads: &'a [(u32, Value)]) -> Reason<'a>
-    ensures { told_reason result ≡ if is_blocks verdict.now then WaitsFor reads.now else CanFinish }
+    ensures { shown_reason result ≡ if is_blocks verdict.now then WaitsFor reads.now else CanFinish }
 {
     if blocks(verdict) {
         Reason::Waits(reads)
@@ -77,7 +76,7 @@ fn stale_reason<'a>(
     history: &[Event],
 ) -> Result<Option<Reason<'a>>, NoMemory>
     requires { EachIsWritable history.now }
-    ensures { IfOk result (λ r. option_map told_reason r
+    ensures { IfOk result (λ r. option_map shown_reason r
         ≡ Some (reason_listed reads.now (kept_cause_at ticket (option_map (λ c. c.now) checkpoint.entry)) (last_with ticket history.now))) }
 {
     match find_cause(history, ticket) {
@@ -92,7 +91,7 @@ fn stale_before<'a>(
     reads: &[(u32, Value)],
     kept: Option<&KeptCause>,
 ) -> Result<Option<Reason<'a>>, NoMemory>
-    ensures { IfOk result (λ r. option_map told_reason r
+    ensures { IfOk result (λ r. option_map shown_reason r
         ≡ Some (reason_kept reads.now (option_map (λ k. k.now) kept.entry))) }
 {
     match kept {
@@ -133,7 +132,7 @@ fn stale_by<'a>(
     what: &What,
 ) -> Result<Option<Reason<'a>>, NoMemory>
     requires { IsWritable what.now }
-    ensures { IfOk result (λ r. option_map told_reason r
+    ensures { IfOk result (λ r. option_map shown_reason r
         ≡ Some (IsStale (record { finish = ticket_in what.now; changes = changes_of reads.now what.now }))) }
 {
     let changes = changes_told(alloc, reads, what)?;

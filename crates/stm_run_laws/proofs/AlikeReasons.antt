@@ -38,12 +38,12 @@ use Rattle.stm_machine.specs.Machine.{event}
 use Rattle.stm_desk.specs.declared.reason.Change.{Change}
 use Rattle.stm_desk.specs.DeskView.{DeskView, start_state, state_of, with_event}
 use Rattle.stm_desk.specs.Reasons.{ticket_of, Cause, cause_or, kept_cause_at, WaitReason, NotEvaluated, IsStale, Waits, CanFinish, current_reason, was_stale, stale_reason, reason_since, reason_of_waiter, reason_of}
-use Rattle.stm_desk.specs.ReasonsTold.{changes_told, cause_told, events_since, stale_at, stale_told}
+use Rattle.stm_desk.specs.ReasonsByEvents.{changes_told, cause_told, events_since, stale_at, stale_told}
 use Rattle.stm_desk.proofs.CausesTold.{FitFrom, fit_all, fit_rest, told_here, is_caused, is_caused_before}
 use Rattle.stm_desk.proofs.LastLists.{verdict_before, waiting_before}
 use Rattle.stm_desk.proofs.Listed.{has_reads}
 use Rattle.stm_desk.proofs.ReadValues.{AreRead, reads_are, unchanged}
-use Rattle.stm_desk.proofs.ReasonsTold.{no_reason, stale_whole}
+use Rattle.stm_desk.proofs.ReasonsByEvents.{no_reason, stale_whole}
 use Rattle.stm_desk.proofs.StaleBefore.{was_stale_at}
 use Rattle.stm_desk.proofs.Starts.{IsTypedHistory}
 use Rattle.stm_commands.specs.OpenDesk.{HandedOut}

@@ -1,7 +1,7 @@
 //! `why`: what a block waits for.
 
 ghost use Rattle.std.specs.Prelude.{option_map};
-ghost use Rattle.stm_desk.specs.ReasonsTold.{told_reason};
+ghost use Rattle.stm_desk.specs.ReasonsByEvents.{shown_reason};
 ghost use Rattle.stm_terms.specs.Texts.{spaced};
 ghost use Rattle.stm_commands.specs.Questions.{change_text, reason_text, why_line, why_answer};
 ghost use Rattle.stm_commands.specs.Printing.{Prints};
@@ -39,7 +39,7 @@ fn write_changes(changes: &[Change], out: &mut String) -> Result<(), NoMemory>
 
 /// Appends what a block waits for.
 fn write_reason(reason: &Reason<'_>, out: &mut String) -> Result<(), NoMemory>
-    ensures { Prints result out.old out.new (reason_text (told_reason reason.now)) }
+    ensures { Prints result out.old out.new (reason_text (shown_reason reason.now)) }
 {
     match reason {
         Reason::New => out.push_str("new"),
@@ -58,7 +58,7 @@ fn write_reason(reason: &Reason<'_>, out: &mut String) -> Result<(), NoMemory>
 
 /// Appends the answer of `why`.
 fn write_why(ticket: u32, reason: &Option<Reason<'_>>, out: &mut String) -> Result<(), NoMemory>
-    ensures { Prints result out.old out.new (why_line ticket (option_map told_reason reason.now)) }
+    ensures { Prints result out.old out.new (why_line ticket (option_map shown_reason reason.now)) }
 {
     match reason {
         None => refuse("NoTicket", out),

@@ -10,7 +10,7 @@ returns-clause-refused c =
     ]
 
 pub returns-clause-grown : goal.returns-clause-grown
-returns-clause-grown c = delivered_grown _ _ _ _ c.deliver_own-answer.result c.deliver_own-answer.ensures.accepted c.deliver_own-answer.ensures.unchanged c.history-events.ensures.start c.history-events.ensures.legal
+returns-clause-grown c = delivered_grown _ _ _ _ c.deliver_own-answer.result c.deliver_own-answer.ensures.accepted c.deliver_own-answer.ensures.left c.history-events.ensures.start c.history-events.ensures.legal
 
 pub returns-clause-store : goal.returns-clause-store
-returns-clause-store c = delivered_store _ _ _ _ c.deliver_own-answer.result c.deliver_own-answer.ensures.accepted c.deliver_own-answer.ensures.unchanged
+returns-clause-store c = delivered_store _ _ _ _ c.deliver_own-answer.result c.deliver_own-answer.ensures.accepted c.deliver_own-answer.ensures.left

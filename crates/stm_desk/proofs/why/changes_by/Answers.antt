@@ -1,7 +1,7 @@
 use Rattle.std.proofs.Common.{◌∙◌, ap}
 use Rattle.stm_terms.specs.declared.verdicts.Verdict.{Verdict}
 use Rattle.stm_desk.specs.Reasons.{changes_from}
-use Rattle.stm_desk.specs.ReasonsTold.{left_by_verdict}
+use Rattle.stm_desk.specs.ReasonsByEvents.{left_by_verdict}
 use Rattle.stm_desk.proofs.ReadValues.{no_commit}
 use Rattle.stm_desk.proofs.why.changes_by.Goals as goal
 

@@ -1,6 +1,6 @@
 use Rattle.std.proofs.Common.{ℕ, ◌<◌, List, ◌++◌, length, ap, ◌∙◌, rules}
 use Rattle.stm_terms.specs.Changes.{Variables}
-use Rattle.stm_desk.specs.ReasonsTold.{left_by_writes}
+use Rattle.stm_desk.specs.ReasonsByEvents.{left_by_writes}
 use Rattle.stm_desk.specs.declared.reason.Change.{Change}
 use Rattle.stm_desk.proofs.EachChange.{change_more}
 use Rattle.stm_desk.proofs.why.changes_in.Goals as goal

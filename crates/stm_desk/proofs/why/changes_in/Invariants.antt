@@ -1,6 +1,6 @@
 use Rattle.std.proofs.Common.{◌≡◌, ◌++◌, drop}
 use Rattle.stm_desk.specs.Reasons.{changes_from}
-use Rattle.stm_desk.specs.ReasonsTold.{left_by_writes}
+use Rattle.stm_desk.specs.ReasonsByEvents.{left_by_writes}
 use Rattle.stm_desk.proofs.why.changes_in.Given as goal
 
 abbrev pub invariant-loop-variable : goal.invariant-loop-variable

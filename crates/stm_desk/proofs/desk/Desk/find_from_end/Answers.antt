@@ -4,7 +4,7 @@ use Rattle.std.specs.Prelude.{nat_eq}
 use Rattle.stm_events.specs.declared.event.Event.{Event}
 use Rattle.stm_events.specs.KeptCauses.{kept_cause_of}
 use Rattle.stm_desk.specs.Causes.{cause_listed, reads_under, IsSought}
-use Rattle.stm_desk.specs.ReasonsTold.{IsWritable}
+use Rattle.stm_desk.specs.ReasonsByEvents.{IsWritable}
 use Rattle.stm_desk.proofs.Seeking.{none_missing, writable_at, sought_before, sought_all}
 use Rattle.stm_desk.proofs.desk.Desk.find_from_end.Goals as goal
 

@@ -12,12 +12,12 @@ use Rattle.stm_desk.specs.declared.desk.Desk.TheInside.{Inside}
 use Rattle.stm_desk.specs.DeskView.{DeskView, state_of}
 use Rattle.stm_desk.specs.Kept.{DeskInvariant}
 use Rattle.stm_desk.specs.Reasons.{kept_cause_at, WaitReason, NotEvaluated, Waits, CanFinish, reason_of}
-use Rattle.stm_desk.specs.ReasonsTold.{EachIsWritable, reason_listed, told_reason}
+use Rattle.stm_desk.specs.ReasonsByEvents.{EachIsWritable, reason_listed, shown_reason}
 use Rattle.stm_desk.specs.Causes.{last_with}
 use Rattle.stm_desk.proofs.CausesTold.{each_is_writable}
 use Rattle.stm_desk.proofs.Starts.{typed_history}
 use Rattle.stm_desk.proofs.ListedReasons.{IsListedReason, stands_stale}
-use Rattle.stm_desk.proofs.ReasonsTold.{no_waiter, no_reason, unread, stands_new, stands_current, has_reason}
+use Rattle.stm_desk.proofs.ReasonsByEvents.{no_waiter, no_reason, unread, stands_new, stands_current, has_reason}
 use Rattle.stm_desk.proofs.Views.{view_of}
 use Rattle.stm_desk.proofs.desk.Desk.why.Goals as goal
 
@@ -70,7 +70,7 @@ returns-in-Stale-clause-reason c =
     ∙ ap (λ (o : Option CheckpointView). Some (reason_listed reads (kept_cause_at t o) (last_with t d.history))) c.as_ref.ensures.value
     ∙ subst (λ (x : DeskView). Some (reason_listed reads (kept_cause_at t d.checkpoint) (last_with t d.history)) ≡ reason_of x t) c.self.view_is p
     in
-    subst (λ (x : Option WaitReason). IfOk c.stale_reason.result (λ r. option_map told_reason r ≡ x)) same c.stale_reason.ensures
+    subst (λ (x : Option WaitReason). IfOk c.stale_reason.result (λ r. option_map shown_reason r ≡ x)) same c.stale_reason.ensures
 
 pub returns-in-Current-clause-reason : goal.returns-in-Current-clause-reason
 returns-in-Current-clause-reason c =

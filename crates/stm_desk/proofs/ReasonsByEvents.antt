@@ -14,7 +14,7 @@ use Rattle.stm_events.proofs.SinceFrom.{TracksFrom, Here, Before, IsTracked, tra
 use Rattle.stm_machine.specs.Checkpoints.{MayStart}
 use Rattle.stm_desk.specs.DeskView.{DeskView, start_state, state_of}
 use Rattle.stm_desk.specs.Reasons.{Cause, first_cause, cause_since_delivery, kept_cause_at, WaitReason, NotEvaluated, IsStale, Waits, CanFinish, current_reason, reason_kept, was_stale, reason_before, stale_reason, reason_since, reason_of_waiter, reason_of}
-use Rattle.stm_desk.specs.ReasonsTold.{cause_told, events_since, stale_at, stale_told}
+use Rattle.stm_desk.specs.ReasonsByEvents.{cause_told, events_since, stale_at, stale_told}
 use Rattle.stm_desk.proofs.CausesTold.{is_caused, is_caused_before}
 use Rattle.stm_desk.proofs.StaleBefore.{was_stale_at}
 use Rattle.stm_desk.proofs.Starts.{IsTypedHistory}

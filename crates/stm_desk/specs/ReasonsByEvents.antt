@@ -88,9 +88,9 @@ reason_listed reads kept None = reason_kept reads kept
 reason_listed reads kept (Some what) = IsStale (record { finish = ticket_of what; changes = changes_told reads what })
 
 -- what a reason says
-abbrev pub told_reason : Reason → WaitReason
-told_reason told.New = NotEvaluated
-told_reason (told.Stale t cs) = IsStale (record { finish = t; changes = cs.items })
-told_reason told.WasStale = WasStale
-told_reason (told.Waits rs) = Waits rs.now
-told_reason told.Ready = CanFinish
+abbrev pub shown_reason : Reason → WaitReason
+shown_reason told.New = NotEvaluated
+shown_reason (told.Stale t cs) = IsStale (record { finish = t; changes = cs.items })
+shown_reason told.WasStale = WasStale
+shown_reason (told.Waits rs) = Waits rs.now
+shown_reason told.Ready = CanFinish
