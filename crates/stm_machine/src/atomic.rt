@@ -1,6 +1,6 @@
 //! A block that is submitted, evaluated and finished at once.
 
-ghost use Rattle.std.specs.Prelude.{◌≡◌, ◌∷◌, ◌++◌, [], None, Some, IfOk, OnOk, OnErr};
+ghost use Rattle.std.specs.Prelude.{◌≡◌, ◌∷◌, ◌++◌, [], false, None, Some, IfOk, OnOk, OnErr};
 ghost use Rattle.stm_store.specs.Cells.{applied_answer};
 ghost use Rattle.stm_watch.specs.Pairs.{WithReads};
 ghost use Rattle.stm_events.specs.declared.event.What.{What as AnyWhat};
