@@ -22,7 +22,7 @@ each_without t ls a = λ u. ap is_label (label-without t u ls) ∙ is_label_by (
 pub each_labelled : (t : ℕ) (label : List ℕ) (ls : Labels) → AreLabels ls → is_label label ≡ true → AreLabels (labelled t label ls)
 each_labelled t label ls a h = λ u. ap is_label (label-labelled t u label ls) ∙ is_label_by (nat_eq u t) label (label_of u ls) h (a u)
 
--- the same of labels that are the same
+-- each of these labels is one if they are the same as others of which each is one
 pub each_same : (ls ls' : Labels) → AreSameLabels ls ls' → AreLabels ls' → AreLabels ls
 each_same ls ls' same a = λ u. ap is_label (same u) ∙ a u
 
@@ -70,7 +70,7 @@ module _ (checkpoint : Option CheckpointView) (history : List Event) (held : Lab
       labels-append (first_labels checkpoint) history (event client a ∷ event client b ∷ []) ∙ ap (λ (ls : Labels). labels_after ls b) e ∙ f in
       record { same = λ u. k.same u ∙ sym (ap (label_of u) two); each = k.each }
 
-  -- the same, and a finish
+  -- a submission, a delivery and a finish
   pub label_goes_at_once : (client : ℕ) (a b c : What) (t : ℕ) (left : Labels) → AreSameLabels left (without_label t held) → labels_after given a ≡ given → labels_after given b ≡ given → labels_after given c ≡ without_label t given
       → HasLabels checkpoint (history ++ event client a ∷ event client b ∷ event client c ∷ []) left
   label_goes_at_once client a b c t left is e f g =

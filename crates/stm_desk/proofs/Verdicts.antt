@@ -21,7 +21,7 @@ itself t = grind (arith, nat_tests)
 unlike : (t u : ℕ) → u < t → nat_eq t u ≡ false
 unlike t u l = grind (arith, nat_tests)
 
--- the same of the list
+-- each of the list has a verdict
 listed : (n k : ℕ) (store : List Cell) (ws : List Waiter) → AreRising n k ws
     → ((t : ℕ) (w : Waiter) → find_waiter t ws ≡ Some w → is_some (verdict_on store w.block) ≡ true) → rounds.HaveVerdicts store ws
 listed n k store [] r each = tt

@@ -56,7 +56,7 @@ first_cause reads s [] = None
 first_cause reads s (e ∷ es) =
     cause_or (ticket_of e.what) (changes_from reads (under (after s e.what).store)) (first_cause reads (after s e.what) es)
 
--- the same of the events after the last delivery to a ticket, among these events, which begin on a state
+-- the first cause among the events after the last delivery to a ticket, of these events, which begin on a state
 abbrev pub cause_since_delivery : ℕ → List (ℕ × Value) → Slow → List Event → Option Cause
 cause_since_delivery t reads s [] = None
 cause_since_delivery t reads s (e ∷ es) =
@@ -73,7 +73,7 @@ abbrev pub kept_cause_in : ℕ → List CheckpointBlock → Option KeptCause
 kept_cause_in t [] = None
 kept_cause_in t (b ∷ bs) = if nat_eq t b.ticket then b.cause else kept_cause_in t bs
 
--- the same of a checkpoint, if there is one
+-- the cause that a checkpoint keeps of a ticket, if there is a checkpoint and it keeps one
 abbrev pub kept_cause_at : ℕ → Option CheckpointView → Option KeptCause
 kept_cause_at t None = None
 kept_cause_at t (Some c) = kept_cause_in t c.blocks
@@ -85,7 +85,7 @@ pub data WaitReason : Type 0 where
   NotEvaluated : WaitReason
   -- another evaluation
   IsStale : Cause → WaitReason
-  -- the same, but it was stale already at the checkpoint that the history begins from, which doesn't know why
+  -- another evaluation, but it was stale already at the checkpoint that the history begins from, which doesn't know why
   WasStale : WaitReason
   -- a change of one of these variables, of which it read these values: it is current and blocks
   Waits : List (ℕ × Value) → WaitReason

@@ -51,7 +51,7 @@ abbrev pub stale_in : ℕ → List CheckpointBlock → Bool
 stale_in t [] = false
 stale_in t (b ∷ bs) = if nat_eq t b.ticket then b.stale else stale_in t bs
 
--- the same of a checkpoint, if there is one
+-- the block under a ticket is stale by a checkpoint, if there is one
 abbrev pub stale_at : ℕ → Option CheckpointView → Bool
 stale_at t None = false
 stale_at t (Some c) = stale_in t c.blocks
@@ -68,7 +68,7 @@ HasWritable n (Commits writes news result) = Rising writes × AreWritable n writ
 HasWritable n (Throws f) = Unit {0}
 HasWritable n Blocks = Unit {0}
 
--- the same of the verdict of a finish
+-- the writes of the verdict of a finish ascend, and may be read in a store with the variables before it
 abbrev pub IsWritable : What → Type 0
 IsWritable (Submitted t block) = Unit {0}
 IsWritable (Installed t v) = Unit {0}

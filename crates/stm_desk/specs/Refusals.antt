@@ -73,7 +73,7 @@ atomic_refused s lacks block =
 abbrev pub atomic_refusal : DeskView → Block → Option AtomicError
 atomic_refusal d block = atomic_refused (state_of d) (lacks_room d) block
 
--- the same as far as it shows before the block is evaluated: each takes two events at least
+-- why a block can't be run atomically, as far as it shows before the block is evaluated: each takes two events at least
 abbrev pub atomic_refusal_before : DeskView → Block → Option AtomicError
 atomic_refusal_before d block =
     let s = state_of d in

@@ -81,7 +81,7 @@ abbrev pub RunsAs : Order → ℕ → DeskView → DeskView → Result Settled S
 RunsAs next client old new (Ok r) = HasRun next client old new r.finished r.evaluations None
 RunsAs next client old new (Err e) = HasHalted next e.why client old new e.finished e.evaluations
 
--- the same of settling
+-- settling did what its definition says: its counts, and why it stopped, if it did
 abbrev pub HasSettled : ℕ → DeskView → DeskView → ℕ → ℕ → Option Stop → Type 0
 HasSettled client old new f e stop = HasRun next_what client old new f e stop
 

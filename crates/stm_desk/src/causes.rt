@@ -116,7 +116,7 @@ impl Desk {
         Ok(())
     }
 
-    /// The same for one ticket of the list.
+    /// A ticket of the list of a finish gets the finish as its cause, if it is missing.
     fn find_for(
         &self,
         alloc: Global,
@@ -139,7 +139,7 @@ impl Desk {
         causes.set(ticket, cause)
     }
 
-    /// The same by an event: only a finish makes blocks stale.
+    /// The missing tickets of an event's list get its finish as their cause: only a finish makes blocks stale.
     fn find_by(
         &self,
         alloc: Global,
@@ -170,7 +170,7 @@ impl Desk {
         }
     }
 
-    /// The same by these events, from the last one back: a missing ticket gets the last event whose list has it. Ends as soon as none is
+    /// The causes by these events, from the last one back: a missing ticket gets the last event whose list has it. Ends as soon as none is
     /// missing.
     fn find_from_end(
         &self,
@@ -243,7 +243,7 @@ fn find_kept_at(
     }
 }
 
-/// The same of these blocks of it.
+/// The causes of missing tickets that these blocks of a checkpoint keep.
 fn find_kept(
     alloc: Global,
     blocks: &[CheckpointBlock],
@@ -259,7 +259,7 @@ fn find_kept(
     Ok(())
 }
 
-/// The same of one block.
+/// The cause that one block of a checkpoint keeps, if its ticket is missing.
 fn find_kept_by(
     alloc: Global,
     block: &CheckpointBlock,

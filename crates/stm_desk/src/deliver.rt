@@ -43,7 +43,7 @@ impl Desk {
         limit_delivery(self.is_full(), self.machine.may_deliver(message))
     }
 
-    /// The same of a message of one of the desk's own jobs.
+    /// Why a message of one of the desk's own jobs can't be delivered.
     fn may_deliver_own(&self, message: &Evaluated) -> Result<(), DeliverError>
         requires own { IsTicketOf (message_block message.now) (state_of self.now) (message_ticket message.now) }
         ensures refused { RefusesDelivery result self.now message.now }
@@ -140,8 +140,8 @@ impl Desk {
         self.deliver_unless(client, message, answer)
     }
 
-    /// The same of a message of one of the desk's own jobs (`take`): its ticket was given to its block, so no blocks are compared,
-    /// which takes as long as half of a block's evaluation.
+    /// Installs the verdict of a message of one of the desk's own jobs (`take`), as `deliver` does. Its ticket was given to its block, so
+    /// no blocks are compared, which takes as long as half of a block's evaluation.
     pub fn deliver_own(
         &mut self,
         client: u32,

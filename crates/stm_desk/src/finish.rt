@@ -155,7 +155,7 @@ impl Desk {
         Ok(applied)
     }
 
-    /// The same, and the event joins the list that is lent, too.
+    /// The finish by its plan, whose event joins the list that is lent, too.
     fn apply_noted(
         &mut self,
         client: u32,

@@ -6,6 +6,12 @@
 //! `specs/Evaluating` what evaluating the queued blocks does, `specs/Settling` what settling does and why it stops, `specs/Reasons`
 //! what a waiting block waits for, and `specs/Checkpointed` what a checkpoint has. Each accepted call adds exactly its event, and
 //! `atomically` all of its events or none. Only `evaluate_queued`, `settle`, `drain` and `atomically` evaluate blocks.
+//!
+//! `desk` has the desk, which a table or a history (`resume`) opens. `submit`, `take`, `deliver`, `finish` and `cancel` are the life of a
+//! block; `declare` and `label` are calls of their own. `evaluate` evaluates what is queued, `atomic` runs a block at once, and `settle`
+//! goes on until nothing is left to do. `show` has the questions, `why` what a block waits for (`reason`), and `checkpoint` makes the
+//! history begin from the present state, with the `causes` of stale blocks; the `past` events are dropped little by little. `errors`
+//! says why a block isn't run atomically, and why settling stops.
 #![tactic(auto)]
 
 // The desk and its calls.

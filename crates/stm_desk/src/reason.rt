@@ -18,7 +18,7 @@ pub enum Reason<'a> {
     /// Another evaluation. `finish` is the ticket of the first block that finished since its last delivery and changed
     /// variables that it had read; `changes` has these variables, ascending.
     Stale { finish: u32, changes: Vec<Change> },
-    /// The same, but the block was stale already at the checkpoint that the history begins from, which doesn't know that finish: it was
+    /// Another evaluation, but the block was stale already at the checkpoint that the history begins from, which doesn't know that finish: it was
     /// made before checkpoints kept causes.
     WasStale,
     /// A change of one of these variables, of which it read these values: it is current and blocks.

@@ -22,7 +22,7 @@ use stm_store::{Names, Store, Table};
 use stm_terms::values::Value;
 
 impl Desk {
-    /// How the block under a ticket stands; none where no block waits. A stale verdict is the one that the block had at its
+    /// How the block under a ticket stands; none if no block waits. A stale verdict is the one that the block had at its
     /// last delivery, and a current one is the one that running the block from scratch on the present store gives.
     pub fn status(&self, ticket: u32) -> Option<Status<'_>>
         ensures { option_map shown result ≡ standing_of (state_of self.now) ticket }
@@ -30,8 +30,8 @@ impl Desk {
         self.machine.status(ticket)
     }
 
-    /// What the block under a ticket read at its last delivery, rising; none where no block waits or it is new. Those of a
-    /// current block have their values on the present store.
+    /// What the block under a ticket read at its last delivery, in ascending order; none if no block waits or it is new. On the present
+    /// store the reads of a current block have these values.
     pub fn reads(&self, ticket: u32) -> Option<&[(u32, Value)]>
         ensures then { option_copied result
             ≡ read_then (find_waiter ticket (state_of self.now).waiters) }

@@ -113,7 +113,7 @@ fn cause_kept_at(checkpoint: Option<&Checkpoint>, ticket: u32) -> Option<&KeptCa
     }
 }
 
-/// The same of these blocks of a checkpoint.
+/// The cause that these blocks of a checkpoint keep of a ticket, if they keep one.
 fn cause_kept_in(blocks: &[CheckpointBlock], ticket: u32) -> Option<&KeptCause>
     ensures { option_copied result ≡ kept_cause_in ticket blocks.now }
 {
@@ -225,7 +225,7 @@ pub(crate) fn changes_by(
     }
 }
 
-/// The same by the writes of a commit.
+/// The changes by the writes of a commit.
 fn changes_in(
     alloc: Global,
     reads: &[(u32, Value)],
