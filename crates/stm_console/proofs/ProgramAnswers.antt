@@ -13,7 +13,8 @@ use Rattle.stm_lines.specs.declared.run_fault.RunFault.TheVariants as run_fault
 use Rattle.stm_run.specs.Console.{console_text}
 use Rattle.stm_storm.specs.declared.storming.StormFault.{StormFault}
 use Rattle.stm_storm.specs.declared.storming.StormFault.TheVariants as storm_fault
-use Rattle.stm_storm.specs.StormText.{IsFailedStormText, WritesStorm}
+use Rattle.stm_storm.specs.StormText.{IsFailedStormText, IsInvalidStorm, KeepsOfInvalidStorm, WritesStorm}
+use Rattle.stm_explore_script.specs.ExploreResult.{IsInvalidExploration}
 use Rattle.stm_explore_script.specs.ExploreStatus.{explore_status, is_finding}
 use Rattle.stm_explore_script.specs.declared.exploring.ExploreFault.{ExploreFault}
 use Rattle.stm_explore_script.specs.declared.exploring.ExploreFault.TheVariants as explore_fault
@@ -37,20 +38,26 @@ failure run_fault.NoMemory = inr refl
 pub failed : (e : RunFault) (n : ℕ) → n ≡ status_of e → IsFailure n
 failed e n is = subst IsFailure (sym is) (failure e)
 
+-- nothing was written, so nothing of invalid bytes either
+invalid_unwritten : (IsInvalid : List ℕ → Type 0) (input old new : Option (List ℕ)) → Keeps old new → IfSome input (λ i. IsInvalid i → Keeps old new)
+invalid_unwritten IsInvalid None old new k = tt
+invalid_unwritten IsInvalid (Some i) old new k = λ invalid. k
+
 pub storm_ends : (A : Type 0) (input old new : Option (List ℕ)) (e : StormFault) (n : ℕ) → n ≡ storm_status e → WritesStorm input old new (Err e)
-    → A ⊎ (((n ≡ NOT_RIGHT) × IfSome input (λ i. (text : List ℕ) × IsFailedStormText i text × Appends old new text)) ⊎ IsFailure n)
-storm_ends A input old new (storm_fault.Run fault) n s wrote = inr (inr (failed fault n s))
-storm_ends A input old new (storm_fault.Script fault) n s wrote = inr (inr (inl s))
+    → A ⊎ (((n ≡ NOT_RIGHT) × IfSome input (λ i. (text : List ℕ) × IsFailedStormText i text × Appends old new text))
+    ⊎ (IsFailure n × KeepsOfInvalidStorm input old new))
+storm_ends A input old new (storm_fault.Run fault) n s wrote = inr (inr (failed fault n s, wrote))
+storm_ends A input old new (storm_fault.Script fault) n s wrote = inr (inr (inl s, invalid_unwritten IsInvalidStorm input old new wrote.1))
 storm_ends A input old new storm_fault.Replay n s wrote = inr (inl (s, wrote))
 
-pub exploration_ends : (A P : Type 0) (e : ExploreFault) (n : ℕ) → n ≡ explore_status e → (is_finding e ≡ true → P)
-    → A ⊎ (((n ≡ NOT_RIGHT) × P) ⊎ IsFailure n)
-exploration_ends A P (explore_fault.Run fault) n s found = inr (inr (failed fault n s))
-exploration_ends A P (explore_fault.Script fault) n s found = inr (inr (inl s))
-exploration_ends A P explore_fault.Faulty n s found = inr (inl (s, found refl))
-exploration_ends A P explore_fault.Incomplete n s found = inr (inl (s, found refl))
-exploration_ends A P explore_fault.NoRoom n s found = inr (inl (s, found refl))
-exploration_ends A P explore_fault.Replay n s found = inr (inr (inl s))
+pub exploration_ends : (A P Q : Type 0) (e : ExploreFault) (n : ℕ) → n ≡ explore_status e → (is_finding e ≡ true → P) → (is_finding e ≡ false → Q)
+    → A ⊎ (((n ≡ NOT_RIGHT) × P) ⊎ (IsFailure n × Q))
+exploration_ends A P Q (explore_fault.Run fault) n s found other = inr (inr (failed fault n s, other refl))
+exploration_ends A P Q (explore_fault.Script fault) n s found other = inr (inr (inl s, other refl))
+exploration_ends A P Q explore_fault.Faulty n s found other = inr (inl (s, found refl))
+exploration_ends A P Q explore_fault.Incomplete n s found other = inr (inl (s, found refl))
+exploration_ends A P Q explore_fault.NoRoom n s found other = inr (inl (s, found refl))
+exploration_ends A P Q explore_fault.Replay n s found other = inr (inr (inl s, other refl))
 
 -- ---- nothing was done
 
@@ -69,8 +76,8 @@ run_unwritten (Some input) s max_events k = nothing_written s (console_text max_
 unperformed : (request : Request) (s : Streams) (n : ℕ) → n ≡ NO_MEMORY → ReadsNothing s → WritesNothing s → ProgramDoes (Do request) s n
 unperformed (Run options) s n m unread k = inr (inr m, run_unwritten s.input s options.max_events k)
 unperformed (RunOn options sync file) s n m unread k = inr (unread, k, inr (inr m))
-unperformed (Storm options) s n m unread k = inr (inr (inr m))
-unperformed (Explore options) s n m unread k = inr (inr (inr m))
+unperformed (Storm options) s n m unread k = inr (inr (inr m, invalid_unwritten IsInvalidStorm s.input s.before s.after k))
+unperformed (Explore options) s n m unread k = inr (inr (inr m, invalid_unwritten IsInvalidExploration s.input s.before s.after k))
 unperformed Check s n m unread k = inr (inr m, finding_unwritten s.input s.before s.after k)
 unperformed CheckWhy s n m unread k = inr (inr m, why_unwritten s.input s.before s.after k)
 

@@ -1,17 +1,21 @@
 -- What the exit statuses say follows from what the program does.
-use Rattle.std.proofs.Common.{◌≡◌, ℕ, List, [], ◌∷◌, inl, inr, refl, sym, ap, subst, arith, Option, Some, None, true}
+use Rattle.std.proofs.Common.{◌≡◌, ◌∙◌, ℕ, Bool, List, [], ◌∷◌, inl, inr, refl, sym, ap, subst, arith, Option, Some, None, true, false, Ok, Err}
 use Rattle.std.specs.Prelude.{◌⊎◌, IfSome}
 use Rattle.std.proofs.lemmas.List.{append-nil}
+use Rattle.std.proofs.lemmas.Option.{IfSome_then}
 use Rattle.clap.specs.Words.{Kinds}
 use Rattle.stm_terms.specs.Texts.{IsPrefixOf}
 use Rattle.stm_command_line.specs.CommandLine.{answers_of, are_mistakes, request_of}
 use Rattle.stm_command_line.specs.declared.command_line.Request.{Request}
 use Rattle.stm_command_line.specs.declared.command_line.Request.TheVariants.{Run, RunOn, Storm, Explore, Check, CheckWhy}
 use Rattle.stm_command_line.proofs.WordAnswers.{help_alone, version_alone}
+use Rattle.stm_options.specs.declared.explore_options.ExploreOptions.{ExploreOptions}
+use Rattle.stm_explore_script.specs.ExploreEnd.{WritesNotRight, WritesRight}
+use Rattle.stm_explore_script.specs.ExploreScript.{ExploreScript, explore_script}
 use Rattle.stm_console.specs.Checking.{BeginsFindingText, IsFinding, finding_text}
 use Rattle.stm_console.specs.ExitStatus.{IsFailure, finding_status}
 use Rattle.stm_console.specs.Program.{Do, Help, Mistake, Several, Version, asked_of, ProgramDoes, Streams, Writes}
-use Rattle.stm_console.specs.StatusLaws.{WordsAskForThis, StatusesAreFew, RefusedDoNothing, RequestsAreTaken, Judges, OnlyJudgesFindWrong, WrongFilesDoNothing, DoneRunsAnswer, DoneFilesAnswer, DoneStormsReport, DoneExplorationsAreRight, DoneVersionsAreWritten, OtherRunsWriteAPart, OtherFilesWriteAPart, OtherChecksWriteAPart, OtherVersionsWriteAPart}
+use Rattle.stm_console.specs.StatusLaws.{WordsAskForThis, StatusesAreFew, RefusedDoNothing, RequestsAreTaken, Judges, OnlyJudgesFindWrong, WrongFilesDoNothing, DoneRunsAnswer, DoneFilesAnswer, DoneStormsReport, DoneExplorationsAreRight, DoneVersionsAreWritten, OtherRunsWriteAPart, OtherFilesWriteAPart, OtherChecksWriteAPart, OtherVersionsWriteAPart, InvalidStormsWriteNothing, InvalidExplorationsWriteNothing}
 use Rattle.stm_console.specs.declared.checking.Finding.{Finding}
 use Rattle.stm_console.specs.declared.checking.Finding.TheVariants.{Legal, BadHeader, BadLine, NotLegal}
 use Rattle.stm_console.specs.declared.status.TheConstants.{DONE, NOT_RIGHT, REFUSED}
@@ -89,10 +93,10 @@ few_request (RunOn options sync file) s n (inr h) = elim h.2 [
 ]
 few_request (Storm options) s n (inl done) = inl done.0
 few_request (Storm options) s n (inr (inl wrong)) = inr (inr (inr (inl wrong.0)))
-few_request (Storm options) s n (inr (inr f)) = few_ends n (inr f)
+few_request (Storm options) s n (inr (inr f)) = few_ends n (inr f.0)
 few_request (Explore options) s n (inl done) = inl done.0
 few_request (Explore options) s n (inr (inl wrong)) = inr (inr (inr (inl wrong.0)))
-few_request (Explore options) s n (inr (inr f)) = few_ends n (inr f)
+few_request (Explore options) s n (inr (inr f)) = few_ends n (inr f.0)
 few_request Check s n (inl found) = few_finding found.0 n found.1
 few_request Check s n (inr f) = few_ends n (inr f.0)
 few_request CheckWhy s n (inl found) = few_finding found.0 n found.1
@@ -124,10 +128,10 @@ taken (RunOn options sync file) s (inr h) = elim h.2 [
 ]
 taken (Storm options) s (inl done) = end_isnt_2 (inl done.0)
 taken (Storm options) s (inr (inl wrong)) = two_isnt_three wrong.0
-taken (Storm options) s (inr (inr f)) = end_isnt_2 (inr f)
+taken (Storm options) s (inr (inr f)) = end_isnt_2 (inr f.0)
 taken (Explore options) s (inl done) = end_isnt_2 (inl done.0)
 taken (Explore options) s (inr (inl wrong)) = two_isnt_three wrong.0
-taken (Explore options) s (inr (inr f)) = end_isnt_2 (inr f)
+taken (Explore options) s (inr (inr f)) = end_isnt_2 (inr f.0)
 taken Check s (inl found) = finding_isnt_2 found.0 found.1
 taken Check s (inr f) = end_isnt_2 (inr f.0)
 taken CheckWhy s (inl found) = finding_isnt_2 found.0 found.1
@@ -195,12 +199,12 @@ done_file options sync file s (inr h) = elim h.2 [
 pub done_storm : DoneStormsReport
 done_storm options s (inl done) = done.1
 done_storm options s (inr (inl wrong)) = absurd (zero_isnt_three wrong.0)
-done_storm options s (inr (inr f)) = absurd (failure_isnt_0 f)
+done_storm options s (inr (inr f)) = absurd (failure_isnt_0 f.0)
 
 pub done_exploration : DoneExplorationsAreRight
 done_exploration options s (inl done) = done.1
 done_exploration options s (inr (inl wrong)) = absurd (zero_isnt_three wrong.0)
-done_exploration options s (inr (inr f)) = absurd (failure_isnt_0 f)
+done_exploration options s (inr (inr f)) = absurd (failure_isnt_0 f.0)
 
 pub done_version : DoneVersionsAreWritten
 done_version s h = elim h.1 [
@@ -237,3 +241,31 @@ other_version s n h other = elim h.1 [
   | inl done ↦ absurd (other done.0)
   | inr f ↦ f.1
 ]
+
+-- ---- invalid scripts
+
+pub invalid_storm : InvalidStormsWriteNothing
+invalid_storm options s n (inl done) =
+    IfSome_then s.input done.1 (λ input w invalid. (let clash : Ok w.1.script ≡ Err invalid.0 = sym w.1.right ∙ invalid.1 in absurd (cc clash)))
+invalid_storm options s n (inr (inl wrong)) =
+    IfSome_then s.input wrong.1 (λ input w invalid. (let clash : Ok w.1.script ≡ Err invalid.0 = sym w.1.right ∙ invalid.1 in absurd (cc clash)))
+invalid_storm options s n (inr (inr f)) = IfSome_then s.input f.1 (λ input kept invalid. (f.0, kept invalid))
+
+-- the script is right of which something was found
+right_script : (history : Bool) (options : ExploreOptions) (input : List ℕ) (old new : Option (List ℕ)) → WritesRight history options input old new
+    → (script : ExploreScript) × (explore_script input ≡ Ok script)
+right_script true options input old new w = (w.0.exploration.script, w.0.exploration.right)
+right_script false options input old new w = (w.1.exploration.script, w.1.exploration.right)
+
+faulty_script : (history : Bool) (options : ExploreOptions) (input : List ℕ) (old new : Option (List ℕ)) → WritesNotRight history options input old new
+    → (script : ExploreScript) × (explore_script input ≡ Ok script)
+faulty_script true options input old new (inl w) = (w.1.exploration.script, w.1.exploration.right)
+faulty_script true options input old new (inr w) = (w.0.exploration.script, w.0.exploration.right)
+faulty_script false options input old new w = (w.1.exploration.script, w.1.exploration.right)
+
+pub invalid_exploration : InvalidExplorationsWriteNothing
+invalid_exploration options s n (inl done) =
+    IfSome_then s.input done.1 (λ input w invalid. (let right = right_script options.history options input s.before s.after w in let clash : Ok right.0 ≡ Err invalid.0 = sym right.1 ∙ invalid.1 in absurd (cc clash)))
+invalid_exploration options s n (inr (inl wrong)) =
+    IfSome_then s.input wrong.1 (λ input w invalid. (let right = faulty_script options.history options input s.before s.after w in let clash : Ok right.0 ≡ Err invalid.0 = sym right.1 ∙ invalid.1 in absurd (cc clash)))
+invalid_exploration options s n (inr (inr f)) = IfSome_then s.input f.1 (λ input kept invalid. (f.0, kept invalid))

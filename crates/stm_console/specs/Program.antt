@@ -12,8 +12,9 @@ use Rattle.stm_run.specs.Console.{console_text}
 use Rattle.stm_run.specs.LineCheckpoints.{Turn, answers_by, ForTurns}
 use Rattle.stm_options.specs.declared.options.Options.{Options}
 use Rattle.stm_journaled_run.specs.DurableRun.{resumed_console}
-use Rattle.stm_storm.specs.StormText.{IsFailedStormText, IsStormText}
+use Rattle.stm_storm.specs.StormText.{IsFailedStormText, IsInvalidStorm, IsStormText}
 use Rattle.stm_explore_script.specs.ExploreEnd.{WritesNotRight, WritesRight}
+use Rattle.stm_explore_script.specs.ExploreResult.{IsInvalidExploration}
 use Rattle.stm_command_line.specs.CommandLine.{answers_of, are_mistakes, is_help, is_version, request_of, version_line}
 use Rattle.stm_command_line.specs.declared.command_line.Request.{Request}
 use Rattle.stm_command_line.specs.declared.command_line.Request.TheVariants.{Run, RunOn, Storm, Explore, Check, CheckWhy}
@@ -141,15 +142,18 @@ ProgramDoes (Do (Run options)) s status =
     ⊎ Fails s status (λ input. WritesPartOf s (console_text options.max_events input))
 -- a run on a file goes on from the history that the file has
 ProgramDoes (Do (RunOn options sync file)) s status = RunsOn options (s.files file) s status
--- a storm writes a text of its script; a failed one if the history that its clients left isn't found legal
+-- a storm writes a text of its script; a failed one if the history that its clients left isn't found legal; and nothing of an invalid
+-- script, of which it fails
 ProgramDoes (Do (Storm options)) s status =
     EndsBy DONE s status (λ input. WritesA s (IsStormText input))
-    ⊎ (EndsBy NOT_RIGHT s status (λ input. WritesA s (IsFailedStormText input)) ⊎ IsFailure status)
+    ⊎ (EndsBy NOT_RIGHT s status (λ input. WritesA s (IsFailedStormText input))
+    ⊎ Fails s status (λ input. IsInvalidStorm input → WritesNothing s))
 -- an exploration ends with success only if nothing is wrong with any state that its clients can reach, and writes so; with status 3 it
--- writes which fault it found, or that there are more states than may be kept
+-- writes which fault it found, or that there are more states than may be kept; of an invalid script it fails, and writes nothing
 ProgramDoes (Do (Explore options)) s status =
     EndsBy DONE s status (λ input. WritesRight options.history options input s.before s.after)
-    ⊎ (EndsBy NOT_RIGHT s status (λ input. WritesNotRight options.history options input s.before s.after) ⊎ IsFailure status)
+    ⊎ (EndsBy NOT_RIGHT s status (λ input. WritesNotRight options.history options input s.before s.after)
+    ⊎ Fails s status (λ input. IsInvalidExploration input → WritesNothing s))
 -- a check writes what it finds of the bytes, which the status says too; if it fails, nothing or a part of that
 ProgramDoes (Do Check) s status =
     ((f : Finding) × (status ≡ finding_status f) × IfSome s.input (λ bytes. IsFinding bytes f) × Writes s (finding_text f))

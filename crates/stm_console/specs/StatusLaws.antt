@@ -7,14 +7,16 @@ use Rattle.stm_history_file.specs.Durable.{LoadsFront}
 use Rattle.stm_run.specs.Console.{console_text}
 use Rattle.stm_run.specs.LineCheckpoints.{answers_by}
 use Rattle.stm_journaled_run.specs.DurableRun.{resumed_console}
-use Rattle.stm_storm.specs.StormText.{IsStormText}
+use Rattle.stm_storm.specs.StormText.{IsInvalidStorm, IsStormText}
 use Rattle.stm_explore_script.specs.ExploreEnd.{WritesRight}
+use Rattle.stm_explore_script.specs.ExploreResult.{IsInvalidExploration}
 use Rattle.stm_options.specs.declared.explore_options.ExploreOptions.{ExploreOptions}
 use Rattle.stm_options.specs.declared.options.Options.{Options}
 use Rattle.stm_command_line.specs.CommandLine.{answers_of, asks_for_help, asks_for_version, has_mistake, request_of, version_line}
 use Rattle.stm_command_line.specs.declared.command_line.Request.{Request}
 use Rattle.stm_command_line.specs.declared.command_line.Request.TheVariants.{Run, RunOn, Storm, Explore, Check, CheckWhy}
 use Rattle.stm_console.specs.Checking.{BeginsFindingText}
+use Rattle.stm_console.specs.ExitStatus.{IsFailure}
 use Rattle.stm_console.specs.Journal.{HasNoHistory}
 use Rattle.stm_console.specs.Program.{Asked, Do, Help, Mistake, Version, asked_by, OverLines, ProgramDoes, ReadsNothing, Streams, Writes, WritesA, WritesNothing, WritesPartOf}
 use Rattle.stm_console.specs.declared.status.TheConstants.{DONE, NOT_RIGHT, REFUSED}
@@ -122,3 +124,15 @@ OtherChecksWriteAPart = (s : Streams) (status : ℕ) → ProgramDoes (Do Check) 
 -- a part of the version's line was written
 abbrev pub OtherVersionsWriteAPart : Type 0
 OtherVersionsWriteAPart = (s : Streams) (status : ℕ) → ProgramDoes Version s status → status ≢ DONE → WritesPartOf s version_line
+
+-- ---- invalid scripts
+
+-- of an invalid script a storm fails, and nothing was written
+abbrev pub InvalidStormsWriteNothing : Type 0
+InvalidStormsWriteNothing = (options : Options) (s : Streams) (status : ℕ) → ProgramDoes (Do (Storm options)) s status
+    → IfSome s.input (λ input. IsInvalidStorm input → IsFailure status × WritesNothing s)
+
+-- and so does an exploration
+abbrev pub InvalidExplorationsWriteNothing : Type 0
+InvalidExplorationsWriteNothing = (options : ExploreOptions) (s : Streams) (status : ℕ) → ProgramDoes (Do (Explore options)) s status
+    → IfSome s.input (λ input. IsInvalidExploration input → IsFailure status × WritesNothing s)

@@ -1,6 +1,6 @@
 //! What holds of the exit statuses, and the laws of `stm_command_line`: what holds of the words.
 
-ghost use Rattle.stm_console.specs.StatusLaws.{WordsAskForThis, StatusesAreFew, RefusedDoNothing, RequestsAreTaken, OnlyJudgesFindWrong, WrongFilesDoNothing, DoneRunsAnswer, DoneFilesAnswer, DoneStormsReport, DoneExplorationsAreRight, DoneVersionsAreWritten, OtherRunsWriteAPart, OtherFilesWriteAPart, OtherChecksWriteAPart, OtherVersionsWriteAPart};
+ghost use Rattle.stm_console.specs.StatusLaws.{WordsAskForThis, StatusesAreFew, RefusedDoNothing, RequestsAreTaken, OnlyJudgesFindWrong, WrongFilesDoNothing, DoneRunsAnswer, DoneFilesAnswer, DoneStormsReport, DoneExplorationsAreRight, DoneVersionsAreWritten, OtherRunsWriteAPart, OtherFilesWriteAPart, OtherChecksWriteAPart, OtherVersionsWriteAPart, InvalidStormsWriteNothing, InvalidExplorationsWriteNothing};
 
 pub use stm_command_line::laws::{
     numbers_in_range_are_taken, options_stand_once_after_run, versions_are_asked_for,
@@ -23,7 +23,7 @@ pub fn exit_statuses()
     ensures wrong_file { WrongFilesDoNothing }
 {}
 
-/// What was written, if the exit status is 0, and if it isn't.
+/// What was written, if the exit status is 0, and if it isn't. Of an invalid script nothing was written, and the status is 1 or 4.
 pub fn output_by_status()
     ensures run { DoneRunsAnswer }
     ensures run_on { DoneFilesAnswer }
@@ -34,4 +34,6 @@ pub fn output_by_status()
     ensures run_on_part { OtherFilesWriteAPart }
     ensures check_part { OtherChecksWriteAPart }
     ensures version_part { OtherVersionsWriteAPart }
+    ensures invalid_storm { InvalidStormsWriteNothing }
+    ensures invalid_exploration { InvalidExplorationsWriteNothing }
 {}

@@ -1,10 +1,11 @@
 -- What a storm writes.
-use Rattle.std.specs.Prelude.{⊤, ◌≡◌, ℕ, ◌+◌, List, [], ◌∷◌, ◌++◌, Option, Some, None, Result, Ok, Err, IfSome, codes, decimal, length}
+use Rattle.std.specs.Prelude.{◌≡◌, ℕ, ◌+◌, List, [], ◌∷◌, ◌++◌, Option, Some, None, Result, Ok, Err, IfSome, codes, decimal, length}
 use Rattle.std.specs.Io.KnownBytes.{Appends, Keeps}
 use Rattle.stm_events.specs.declared.event.Event.{Event}
 use Rattle.stm_pool.specs.declared.storm.Counts.{Counts}
 use Rattle.stm_storm.specs.StormHistory.{IsIllegalStormHistory, IsStormHistory}
 use Rattle.stm_script.specs.StormScript.{StormScript, storm_script}
+use Rattle.stm_script.specs.declared.script_fault.ScriptFault.{ScriptFault}
 use Rattle.stm_storm.specs.declared.storming.StormFault.{StormFault}
 use Rattle.stm_storm.specs.declared.storming.StormFault.TheVariants.{Replay, Run, Script}
 
@@ -62,6 +63,14 @@ pub record IsFailedStormText (input text : List ℕ) : Type 0 where
   pub illegal : IfSome events (λ n. (history : List Event) × IsIllegalStormHistory script.table counts n history)
   pub written : text ≡ failed_text counts events
 
+-- a line of the script is invalid
+abbrev pub IsInvalidStorm : List ℕ → Type 0
+IsInvalidStorm input = (fault : ScriptFault) × (storm_script input ≡ Err fault)
+
+-- of an invalid script nothing was written
+abbrev pub KeepsOfInvalidStorm : Option (List ℕ) → Option (List ℕ) → Option (List ℕ) → Type 0
+KeepsOfInvalidStorm input old new = IfSome input (λ i. IsInvalidStorm i → Keeps old new)
+
 -- What `storm` wrote, by its result. `input` are the bytes that the reader had left, `old` and `new` those that the writer had before and has
 -- after the call, if they are known.
 abbrev pub WritesStorm : Option (List ℕ) → Option (List ℕ) → Option (List ℕ) → Result (Unit {0}) StormFault → Type 0
@@ -72,5 +81,5 @@ WritesStorm input old new (Ok done) = IfSome input (λ i. (text : List ℕ) × I
 WritesStorm input old new (Err Replay) = IfSome input (λ i. (text : List ℕ) × IsFailedStormText i text × Appends old new text)
 -- this is the first invalid line of the script, and why it is invalid; nothing was written
 WritesStorm input old new (Err (Script fault)) = IfSome input (λ i. storm_script i ≡ Err fault) × Keeps old new
--- reader, writer or memory failed; what was written isn't said
-WritesStorm input old new (Err (Run fault)) = ⊤
+-- reader, writer or memory failed; what was written isn't said, unless the script is invalid
+WritesStorm input old new (Err (Run fault)) = KeepsOfInvalidStorm input old new

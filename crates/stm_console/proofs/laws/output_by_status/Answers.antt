@@ -1,4 +1,4 @@
-use Rattle.stm_console.proofs.StatusProofs.{done_run, done_file, done_storm, done_exploration, done_version, other_run, other_file, other_check, other_version}
+use Rattle.stm_console.proofs.StatusProofs.{done_run, done_file, done_storm, done_exploration, done_version, other_run, other_file, other_check, other_version, invalid_storm, invalid_exploration}
 use Rattle.stm_console.proofs.laws.output_by_status.Goals as goal
 
 pub returns-clause-run : goal.returns-clause-run
@@ -27,3 +27,9 @@ returns-clause-run_on c = done_file
 
 pub returns-clause-run_on_part : goal.returns-clause-run_on_part
 returns-clause-run_on_part c = other_file
+
+pub returns-clause-invalid_storm : goal.returns-clause-invalid_storm
+returns-clause-invalid_storm c = invalid_storm
+
+pub returns-clause-invalid_exploration : goal.returns-clause-invalid_exploration
+returns-clause-invalid_exploration c = invalid_exploration
