@@ -104,11 +104,11 @@ OthersAreRefused = (name : List ℕ) (n : ℕ) → n < 2 ^ 64
     × (limits.max_levels < n → IsTrue (has_mistake (run_with name (codes "--levels=") n)))
     × (limits.max_events < n → IsTrue (has_mistake (run_with name (codes "--max-events=") n)))
 
--- the words of a run with an option twice, with these values
+-- the words of a run with an option twice, with these values, and with nothing else
 abbrev pub run_twice : List ℕ → List ℕ → List ℕ → List ℕ → List (List ℕ)
 run_twice name option first second = name ∷ codes "run" ∷ (option ++ first) ∷ (option ++ second) ∷ []
 
--- none of the options may stand twice, whatever the values are
+-- such words are refused for each of the options, whatever the values are
 abbrev pub NoOptionTwice : Type 0
 NoOptionTwice = (name first second : List ℕ)
     → IsTrue (has_mistake (run_twice name (codes "--workers=") first second))

@@ -37,8 +37,8 @@ pub fn numbers_in_range_are_taken()
     ensures others { OthersAreRefused }
 {}
 
-/// `run` with the same option twice is refused, whatever its two values are, and so is an option that comes first, without
-/// `run`.
+/// `run` with the same option twice, side by side and with no other word, is refused, whatever its two values are. So are words of
+/// which an option is the first, without `run`.
 pub fn options_stand_once_after_run()
     ensures once { NoOptionTwice }
     ensures after { OptionsNeedRun }
