@@ -708,7 +708,7 @@ fn refusal(alloc: Global, is_storm: bool, kind: ErrorKind, message: &str) -> Err
     }
 }
 
-/// That a word is no mode.
+/// The error that a word is no mode.
 fn unknown_mode(alloc: Global, word: &str) -> Error
     ensures { HasKind (ErrorKind.InvalidValue ∷ []) result }
 {

@@ -236,7 +236,7 @@ run_ok next line d e js f n old new (Ok x) s p =
     )
 run_ok next line d e js f n old new (Err x) s p = tt
 
--- a run that stopped, by what was told of it
+-- a run that stopped, by what is known of where it stopped
 stopped_told : (next : Order) (line : ℕ → ℕ → List ℕ) (d e : DeskView) (w : SettleWhy) (f n : ℕ) → HasHalted next w 0 d e f n → w ≢ NoMemory
     → (e ≡ with_whats d 0 (slow_run next d)) × (why_text w ++ line f n ≡ run_text line (slow_run next d) (slow_run_stop next d))
 stopped_told next line d e HistoryFull f n s h = (

@@ -141,7 +141,7 @@ batch_covered cells d whole batch rest l = (covered_both cells batch rest l.cove
 pub batch_stands : (cells : List (Ty × Value)) (d whole : DeliveredSoFar) (batch rest : List Job) → AreLeft cells d whole (batch ++ rest) → JobsStand d.desk (map (handed_out cells) batch)
 batch_stands cells d whole batch rest l = (stand_both d.desk cells batch rest l.stand).0
 
--- those behind a batch that was delivered
+-- the jobs after a batch that was delivered
 pub batch_done : (cells : List (Ty × Value)) (d e whole : DeliveredSoFar) (batch rest : List Job) → HasGrown d.desk e.desk → e ≡ delivered_all d (map (handed_out cells) batch) → AreLeft cells d whole (batch ++ rest)
     → AreLeft cells e whole rest
 batch_done cells d e whole batch rest g p l = record {
@@ -152,12 +152,12 @@ batch_done cells d e whole batch rest g p l = record {
       ∙ ap (delivered_all d) (sym (map-append (handed_out cells) batch rest)) ∙ l.done;
 }
 
--- a batch and the jobs behind it, before and after the next one joined it
+-- a batch and the jobs after it, before and after the next one joined it
 pub batch_longer : (batch rest longer shorter : List Job) (j : Job) → rest ≡ j ∷ shorter → longer ≡ batch ++ j ∷ [] → batch ++ rest ≡ longer ++ shorter
 batch_longer batch rest longer shorter j e p =
     ap (λ (js : List Job). batch ++ js) e ∙ sym (append_assoc batch (j ∷ []) shorter) ∙ ap (λ (js : List Job). js ++ shorter) (sym p)
 
--- where nothing is left behind a batch
+-- if no job is left after a batch
 pub last_batch : (batch rest : List Job) → length rest ≡ 0 → batch ++ rest ≡ batch
 last_batch batch [] n = append-nil batch
 last_batch batch (j ∷ js) n = absurd (omega arith)

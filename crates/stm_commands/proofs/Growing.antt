@@ -194,7 +194,7 @@ kept_pending {known = known} d e p copy ks q k =
     subst (λ (f : DeskView). OpenInvariant f copy ks known) (sym q)
     (record { start = k.start; legal = k.legal; copied = queued_copied d p copy k.copied; jobs_stand = queued_stand d p (map job_kept ks) k.jobs_stand; have_stores = k.have_stores; kept_names = k.kept_names })
 
--- with more jobs that stand, where each that needs its store has it
+-- with more jobs that stand, if each that needs its store has it
 pub kept_more : {A E : Type 0} {known : List Named} → (d e : DeskView) (copy : Option (List (Ty × Value))) (ks ls ms : List KeptJob) (r : Result A E) → e ≡ record d { pending = e.pending } → JobsStand d (map job_kept ls)
     → OnOk r (map job_kept ms ≡ map job_kept ks ++ map job_kept ls) → OnErr r (map job_kept ms ≡ map job_kept ks) → HaveStores (state_of e).waiters ms → OpenInvariant d copy ks known → OpenInvariant e copy ms known
 kept_more {A = A} {E = E} {known = known} d e copy ks ls ms r q s ok err h k = by r ok err (kept_queued d e copy ks q k)
@@ -234,7 +234,7 @@ grown_whats d e client ws p start legal = record {
   legal = legal;
 }
 
--- the same where no ticket was taken back
+-- the desk has grown by these events, if no ticket was taken back
 pub grown_by : (d e : DeskView) (client : ℕ) (ws : List What) → e ≡ with_whats d client ws → MayStart e.table e.checkpoint → IsLegalFrom (start_state e) e.history → HasGrown d e
 grown_by d e client ws p start legal = record {
   table = ap (λ s. s.table) p ∙ whats_table d client ws;

@@ -176,7 +176,7 @@ take_none : (n : ℕ) (ts : List ℕ) → ts ≡ [] → take n ts ≡ []
 take_none zero ts e = refl
 take_none (suc n) ts e = ap (take (suc n)) e
 
--- where none is queued, none is handed out
+-- if no ticket is queued, none is handed out
 sent_none : (n u : ℕ) (es : List Entry) → first_queued es ≡ None → is_out u (sent n es) ≡ is_out u es
 sent_none zero u es h = refl
 sent_none (suc n) u es h = ap (λ (o : Option ℕ). is_out u (sent n (sent_out o es))) h ∙ sent_none n u es h

@@ -19,7 +19,7 @@ next_checkpoint_of d = if are_tickets_full d then None else Some (checkpoint_now
 abbrev pub begun_anew : OpenDesk → OpenDesk
 begun_anew d = record d { desk = checkpointed d.desk }
 
--- the line that tells how many events the history had before
+-- the line that says how many events the history had before
 unfoldable pub checkpoint_line : ℕ → List ℕ
 checkpoint_line n = codes "checkpoint " ++ decimal n ++ 10 ∷ []
 

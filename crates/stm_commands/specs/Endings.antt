@@ -102,7 +102,7 @@ abbrev pub stop_why : Stop → SettleWhy
 stop_why NoRoom = HistoryFull
 stop_why NoCells = CellsFull
 
--- what is told of a run: the counts, in a line of this kind, and why it stopped, if it did
+-- what is printed of a run: the counts, in a line of this kind, and why it stopped, if it did
 abbrev pub run_text : (ℕ → ℕ → List ℕ) → List What → Option Stop → List ℕ
 run_text line whats None = line (finishes whats) (installs whats)
 run_text line whats (Some stop) = why_text (stop_why stop) ++ line (finishes whats) (installs whats)

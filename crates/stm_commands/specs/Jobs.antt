@@ -119,7 +119,7 @@ deliver_step d argument =
 unfoldable pub queued_line : ℕ → List ℕ
 queued_line t = codes "queued " ++ decimal t ++ 10 ∷ []
 
--- the desk where a ticket is no longer out
+-- the desk on which a ticket is no longer out
 abbrev pub handed_back : DeskView → ℕ → DeskView
 handed_back d t = record d { pending = marked t false d.pending }
 

@@ -59,7 +59,7 @@ unfoldable pub label_step : OpenDesk → List ℕ → OpenDesk × List ℕ
 label_step d argument = labelling_step d (labelling argument)
 
 -- ---- block
--- the bytes of these characters, where one that ends a line becomes a space
+-- the bytes of these characters, of which each that ends a line becomes a space
 abbrev pub unbroken : List ℕ → List ℕ
 unbroken [] = []
 unbroken (c ∷ cs) = encode (if nat_eq c 10 || nat_eq c 13 then 32 else c) ++ unbroken cs

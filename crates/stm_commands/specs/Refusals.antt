@@ -1,4 +1,4 @@
--- What is printed where a line is refused.
+-- What is printed if a line is refused.
 use Rattle.std.specs.Prelude.{ℕ, List, [], ◌∷◌, ◌++◌, codes, decimal}
 use Rattle.stm_parse.specs.declared.fault.ParseFault.{ParseFault}
 use Rattle.stm_parse.specs.declared.fault.ParseFault.TheVariants as parse

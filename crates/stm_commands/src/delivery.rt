@@ -39,7 +39,7 @@ fn reported(refusal: DeliverError) -> Result<Option<DeliverError>, NoMemory>
     }
 }
 
-/// Delivers a message of a job. The answer is why it is refused, if it is.
+/// Delivers a message of a job. Returns why it is refused, if it is.
 pub(crate) fn deliver_message(
     desk: &mut Desk,
     message: Evaluated,
@@ -59,7 +59,7 @@ pub(crate) fn deliver_message(
     }
 }
 
-/// Delivers what a job's block does on a store. The answer is why it is refused, if it is.
+/// Delivers what a job's block does on a store. Returns why it is refused, if it is.
 pub(crate) fn deliver_job(
     desk: &mut Desk,
     alloc: Global,

@@ -24,7 +24,7 @@ pub struct KeptJob {
 }
 
 impl KeptJob {
-    /// The job once more.
+    /// A copy of the job.
     pub fn job(&self) -> Result<Job, NoMemory>
         ensures { IfOk result (λ j. handed_out self.now.at_take.value j ≡ job_kept self.now) }
     {

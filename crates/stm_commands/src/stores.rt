@@ -18,7 +18,7 @@ fn waits(desk: &Desk, ticket: u32) -> bool
     desk.block(ticket).is_some()
 }
 
-/// Drops the store of the job at a place if its ticket waits no more. The answer is whether the ticket waits.
+/// Drops the store of the job at a place if its ticket waits no more. Returns whether the ticket waits.
 fn keeps_store(desk: &Desk, jobs: &mut [KeptJob], at: usize) -> bool
     requires { HaveStores (state_of desk.now).waiters jobs.old }
     ensures same { map job_kept jobs.new ≡ map job_kept jobs.old }
@@ -34,8 +34,8 @@ fn keeps_store(desk: &Desk, jobs: &mut [KeptJob], at: usize) -> bool
     false
 }
 
-/// Drops the stores of the jobs at these places whose tickets wait no more. The places of the others come first, and the answer
-/// is how many they are.
+/// Drops the stores of the jobs at these places whose tickets wait no more. The places of the others come first; returns how many
+/// they are.
 fn drop_stores(desk: &Desk, jobs: &mut [KeptJob], places: &mut [usize]) -> usize
     requires { HaveStores (state_of desk.now).waiters jobs.old }
     ensures same { map job_kept jobs.new ≡ map job_kept jobs.old }

@@ -15,7 +15,7 @@ pub struct Threading {
 }
 
 impl Threading {
-    /// Jobs by this many threads, with branches evaluated at once to this depth.
+    /// `workers` threads evaluate blocks, with branches evaluated at once to the depth `levels`.
     pub fn new(workers: u32, levels: u32) -> Threading
         requires some_worker { 0 < workers }
         requires few_workers { workers ≤ MAX_WORKERS }
@@ -24,7 +24,7 @@ impl Threading {
         Threading { workers, levels }
     }
 
-    /// How many threads.
+    /// How many threads evaluate blocks.
     pub fn workers(&self) -> u32
         ensures some { 0 < result }
         ensures few { result ≤ MAX_WORKERS }
@@ -32,7 +32,7 @@ impl Threading {
         self.workers
     }
 
-    /// How deep the branches are evaluated at once.
+    /// How deep the branches of `orElse` are evaluated at once.
     pub fn levels(&self) -> u32
         ensures { result ≤ MAX_LEVELS }
     {

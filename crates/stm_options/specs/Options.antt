@@ -3,7 +3,7 @@ use Rattle.std.specs.Prelude.{◌≤◌, ◌<◌}
 use Rattle.stm_terms.specs.Limits.{max_levels, max_events, max_workers}
 use Rattle.stm_options.specs.declared.options.Options.{Options}
 
--- each is in its range
+-- Each option of a run, or of a storm, is in its range.
 pub record AreRunOptions (o : Options) : Type 0 where
   pub some_worker : 0 < o.workers
   pub few_workers : o.workers ≤ max_workers
@@ -12,6 +12,6 @@ pub record AreRunOptions (o : Options) : Type 0 where
   pub some_event : 1 ≤ o.checkpoint_every
   pub few_between : o.checkpoint_every ≤ max_events
 
--- the options if nothing is said
+-- the options of a run of whose words none says another
 abbrev pub default_options : Options
 default_options = record { workers = 2; levels = 0; max_events = max_events; checkpoint_every = 500000 }

@@ -17,19 +17,19 @@ pub struct Options {
 }
 
 impl Options {
-    /// The most threads.
+    /// The most threads that may evaluate blocks.
     pub const MAX_WORKERS: u32 = limits::MAX_WORKERS;
 
-    /// The deepest branches.
+    /// The deepest branches of `orElse` that may be evaluated on threads of their own.
     pub const MAX_LEVELS: u32 = limits::MAX_LEVELS;
 
-    /// The most events.
+    /// The most events that a desk may take.
     pub const MAX_EVENTS: u32 = limits::MAX_EVENTS;
 
     /// At how many events a checkpoint is made by default.
     pub const CHECKPOINT_EVERY: u32 = 500_000;
 
-    /// If nothing is said: two threads, no branches on threads of their own, as many events as there may be, and a checkpoint at
+    /// The default options: two threads, no branches on threads of their own, as many events as there may be, and a checkpoint at
     /// 500,000 events.
     pub fn standard() -> Options
         ensures { result ≡ default_options }
