@@ -3,7 +3,7 @@ use Rattle.std.proofs.Common.{◌≡◌, ℕ, suc, ◌≤◌, ◌^◌, List, [],
 use Rattle.std.specs.Prelude.{⊤}
 use Rattle.stm_terms.specs.Names.{is_name_text}
 use Rattle.stm_terms.specs.ParsedAst.{RawTerm, RawAct, IsSpan, NamesWithin, SpansWithin, actions}
-use Rattle.stm_terms.specs.ParsedBlock.{IsNameOf, TermNamesAre, NamesAre}
+use Rattle.stm_terms.specs.ParsedBlock.{IsNameOf, TermNamesAre, NamesAreOfText}
 use Rattle.stm_parse.specs.declared.token.Mark.{Mark}
 use Rattle.stm_parse.specs.declared.token.TokenKind.TheVariants as tok
 use Rattle.stm_parse.specs.declared.token.Lexeme.{Lexeme}
@@ -65,7 +65,7 @@ abbrev KeptTerm : List ℕ → RawTerm → Type 0
 KeptTerm text e = NamesWithin (length text) e × TermNamesAre text e
 
 abbrev pub Kept : List ℕ → ℕ → RawAct → Type 0
-Kept text n a = SpansWithin (length text) a × NamesAre text a × (actions a ≤ n)
+Kept text n a = SpansWithin (length text) a × NamesAreOfText text a × (actions a ≤ n)
 
 mutual
   kept_atom : (text : List ℕ) {d : ℕ} {us : List At} {e : RawTerm} → IsAtom d us e → Named text us → KeptTerm text e
@@ -167,7 +167,7 @@ mutual
       ((k.0, l.0), (k.1, l.1), omega arith)
   kept_body text (is_last a) h = kept_action text a h
 
-pub kept_block : (text : List ℕ) (ls : List Lexeme) (t : RawAct) → IsText IsBlock ls t → NamesOf text ls → length ls ≤ most_tokens → SpansWithin (length text) t × NamesAre text t × (actions t ≤ 2 ^ 32)
+pub kept_block : (text : List ℕ) (ls : List Lexeme) (t : RawAct) → IsText IsBlock ls t → NamesOf text ls → length ls ≤ most_tokens → SpansWithin (length text) t × NamesAreOfText text t × (actions t ≤ 2 ^ 32)
 unfolding most_tokens
 kept_block text ls t h n l =
     let k = kept_action text h.1.1 (named text h.0 (subst (NamesOf text) h.3 n)) in

@@ -1,5 +1,6 @@
 -- A parsed block as callers see it.
-use Rattle.std.specs.Prelude.{◌≡◌, ℕ, List, true, refl, slice_range}
+use Rattle.std.specs.Prelude.{◌≡◌, ℕ, ◌≤◌, ◌^◌, List, length, true, refl, slice_range}
+use Rattle.std.specs.Str.{IsAscii}
 use Rattle.std.specs.Global.{Box}
 use denote.RawPtr.{null_ptr}
 use Rattle.std.specs.Coded.{Coded, code_by}
@@ -9,7 +10,7 @@ use Rattle.stm_terms.specs.declared.raw.RawExpr.{RawExpr}
 use Rattle.stm_terms.specs.declared.raw.RawExpr.TheVariants as E
 use Rattle.stm_terms.specs.declared.raw.RawAction.{RawAction}
 use Rattle.stm_terms.specs.declared.raw.RawAction.TheVariants as A
-use Rattle.stm_terms.specs.ParsedAst.{RawTerm, int, truth, unit, name, bin, RawAct, return, read, write, make, retry, throw, if_else, or_else, bind, let_in, seq, catch, raw_term_of, raw_act_of}
+use Rattle.stm_terms.specs.ParsedAst.{RawTerm, int, truth, unit, name, bin, RawAct, return, read, write, make, retry, throw, if_else, or_else, bind, let_in, seq, catch, raw_term_of, raw_act_of, SpansWithin, actions}
 use Rattle.stm_terms.specs.contracts.raw.RawAction as tree
 
 -- the tree and the text
@@ -30,19 +31,30 @@ TermNamesAre text (name span) = IsNameOf text span.start span.end
 TermNamesAre text (bin op a b) = TermNamesAre text a × TermNamesAre text b
 
 -- each name of an action is a name of the text
-abbrev pub NamesAre : List ℕ → RawAct → Type 0
-NamesAre text (return e) = TermNamesAre text e
-NamesAre text (read e) = TermNamesAre text e
-NamesAre text (write r e) = TermNamesAre text r × TermNamesAre text e
-NamesAre text (make e) = TermNamesAre text e
-NamesAre text retry = Unit {0}
-NamesAre text (throw e) = TermNamesAre text e
-NamesAre text (if_else e a at b) = TermNamesAre text e × NamesAre text a × NamesAre text b
-NamesAre text (or_else a at b) = NamesAre text a × NamesAre text b
-NamesAre text (bind span at a b) = IsNameOf text span.start span.end × NamesAre text a × NamesAre text b
-NamesAre text (let_in span e b) = IsNameOf text span.start span.end × TermNamesAre text e × NamesAre text b
-NamesAre text (seq a b) = NamesAre text a × NamesAre text b
-NamesAre text (catch a span at b) = NamesAre text a × IsNameOf text span.start span.end × NamesAre text b
+abbrev pub NamesAreOfText : List ℕ → RawAct → Type 0
+NamesAreOfText text (return e) = TermNamesAre text e
+NamesAreOfText text (read e) = TermNamesAre text e
+NamesAreOfText text (write r e) = TermNamesAre text r × TermNamesAre text e
+NamesAreOfText text (make e) = TermNamesAre text e
+NamesAreOfText text retry = Unit {0}
+NamesAreOfText text (throw e) = TermNamesAre text e
+NamesAreOfText text (if_else e a at b) = TermNamesAre text e × NamesAreOfText text a × NamesAreOfText text b
+NamesAreOfText text (or_else a at b) = NamesAreOfText text a × NamesAreOfText text b
+NamesAreOfText text (bind span at a b) = IsNameOf text span.start span.end × NamesAreOfText text a × NamesAreOfText text b
+NamesAreOfText text (let_in span e b) = IsNameOf text span.start span.end × TermNamesAre text e × NamesAreOfText text b
+NamesAreOfText text (seq a b) = NamesAreOfText text a × NamesAreOfText text b
+NamesAreOfText text (catch a span at b) = NamesAreOfText text a × IsNameOf text span.start span.end × NamesAreOfText text b
+
+-- the tree fits the text that it was parsed from
+pub record IsParsed (text : List ℕ) (tree : RawAct) : Type 0 where
+  -- the text is ASCII
+  pub ascii : IsAscii text
+  -- each name of the tree is a part of the text
+  pub spans : SpansWithin (length text) tree
+  -- that part is a name
+  pub names : NamesAreOfText text tree
+  -- there are few enough actions to count
+  pub few : actions tree ≤ 2 ^ 32
 
 -- a box at no place in memory
 abbrev nowhere : Box (Unit {0})

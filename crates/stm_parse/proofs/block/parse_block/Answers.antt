@@ -1,6 +1,6 @@
 use Rattle.std.proofs.Common.{◌≡◌, length, sym, ap, ◌∙◌, subst, Ok, rules, Err, ◌≢◌}
-use Rattle.stm_terms.specs.ParsedAst.{raw_act_of, SpansWithin}
-use Rattle.stm_terms.specs.ParsedBlock.{NamesAre}
+use Rattle.stm_terms.specs.ParsedAst.{raw_act_of}
+use Rattle.stm_terms.specs.ParsedBlock.{IsParsed}
 use Rattle.stm_parse.specs.Grammar.{IsBlock}
 use Rattle.stm_parse.specs.declared.fault.ParseFault.TheVariants as fault
 use Rattle.stm_parse.specs.ParseResult.{IsTextOf, IsReported}
@@ -12,26 +12,12 @@ use Rattle.stm_parse.proofs.FaultReported.{early_is_memory, text_of, ok_text, on
 use Rattle.stm_parse.proofs.WholeTextRead.{good_block}
 use Rattle.stm_parse.proofs.block.parse_block.Goals as goal
 
-pub of_parts-requires-clause-spans : goal.of_parts-requires-clause-spans
-of_parts-requires-clause-spans c =
+pub of_parts-requires : goal.of_parts-requires
+of_parts-requires c =
     let e = rw c.deref.ensures.value at c.in-Ok.ensures in
     let fits = c.in_ok-toks.ensures.right in
     let k = kept_block c.args.text.now c.in_ok-toks.toks.items (raw_act_of c.in-Ok.action) (text_of block_reader IsBlock good_block c.args.text.now c.in_ok-toks.toks.items fits (raw_act_of c.in-Ok.action) e) c.in_ok-toks.ensures.names fits.2 in
-    subst (λ t. SpansWithin (length t) (raw_act_of c.in-Ok.action)) (sym c.in_ok-own-in-Ok.ensures.ok) k.0
-
-pub of_parts-requires-clause-names : goal.of_parts-requires-clause-names
-of_parts-requires-clause-names c =
-    let e = rw c.deref.ensures.value at c.in-Ok.ensures in
-    let fits = c.in_ok-toks.ensures.right in
-    let k = kept_block c.args.text.now c.in_ok-toks.toks.items (raw_act_of c.in-Ok.action) (text_of block_reader IsBlock good_block c.args.text.now c.in_ok-toks.toks.items fits (raw_act_of c.in-Ok.action) e) c.in_ok-toks.ensures.names fits.2 in
-    subst (λ t. NamesAre t (raw_act_of c.in-Ok.action)) (sym c.in_ok-own-in-Ok.ensures.ok) k.1
-
-pub of_parts-requires-clause-few : goal.of_parts-requires-clause-few
-of_parts-requires-clause-few c =
-    let e = rw c.deref.ensures.value at c.in-Ok.ensures in
-    let fits = c.in_ok-toks.ensures.right in
-    let k = kept_block c.args.text.now c.in_ok-toks.toks.items (raw_act_of c.in-Ok.action) (text_of block_reader IsBlock good_block c.args.text.now c.in_ok-toks.toks.items fits (raw_act_of c.in-Ok.action) e) c.in_ok-toks.ensures.names fits.2 in
-    k.2
+    subst (λ t. IsParsed t (raw_act_of c.in-Ok.action)) (sym c.in_ok-own-in-Ok.ensures.ok) (record { ascii = c.in_ok-toks.ensures.ascii; spans = k.0; names = k.1; few = k.2 })
 
 pub returns-in-Ok-clause-right : goal.returns-in-Ok-clause-right
 returns-in-Ok-clause-right c =
