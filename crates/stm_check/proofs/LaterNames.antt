@@ -9,7 +9,7 @@ use Rattle.stm_store.specs.Naming.{Named, known_kinds, number_named}
 use Rattle.stm_store.proofs.Naming.{number_stays, known_stay}
 use Rattle.stm_check.specs.Scopes.{Locals, innermost, types_of}
 use Rattle.stm_check.specs.CheckFunction.{with_kind, variable, wanted, as_wanted, wanted_right, on_ok, unless, on_some, on_type, declared_as, resolved, checked_expr, checked}
-use Rattle.stm_check.specs.Laws.{IsUnknown, LaterNamesChangeNothing, CheckedStay}
+use Rattle.stm_check.specs.Laws.{IsUnknown, LaterNamesChangeUnknown, CheckedStay}
 use Rattle.stm_check.specs.declared.fault.TypeFault.{TypeFault}
 use Rattle.stm_check.specs.declared.fault.TypeFault.TheVariants.{Unknown}
 use Rattle.stm_check.proofs.ActionsSound.{if_some, with_result_some, with_bound_some}
@@ -17,7 +17,7 @@ use Rattle.stm_check.proofs.ExpressionsSound.{with_type_some}
 use Rattle.stm_check.proofs.CheckExact.{accepts_the_well_typed}
 use Rattle.stm_check.proofs.Strengthening.{AgreeAt}
 
--- the same, unless it stopped at an unknown name
+-- what is found stays the same, unless the check stopped at an unknown name
 abbrev Stays : {A : Type 0} → Result A TypeFault → Result A TypeFault → Type 0
 Stays r s = (r ≡ s) ⊎ IsUnknown r
 
@@ -93,7 +93,7 @@ module _ (few more : List Named) where
     act_stays (raw.catch a span at b) ls =
         ok_stays _ _ _ _ (act_stays a ls) (λ y. ok_stays _ _ _ _ (act_stays b ((raw.text_at text span, int_ty) ∷ ls)) (λ z. inl refl))
 
-pub later_names : LaterNamesChangeNothing
+pub later_names : LaterNamesChangeUnknown
 later_names few more text parsed locals = act_stays few more text parsed locals
 
 -- ---- the variables that a block names

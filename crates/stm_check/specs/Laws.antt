@@ -97,8 +97,8 @@ IsUnknown (Err f) = ⊥
 
 -- More names change what the check finds only if it stopped at an unknown one: what it accepts it accepts as the same tree of the
 -- same type, and any other fault stays the same.
-abbrev pub LaterNamesChangeNothing : Type 0
-LaterNamesChangeNothing =
+abbrev pub LaterNamesChangeUnknown : Type 0
+LaterNamesChangeUnknown =
     (few more : List Named) (text : List ℕ) (parsed : raw.RawAct) (locals : Locals)
     → (checked few text locals parsed ≡ checked (few ++ more) text locals parsed) ⊎ IsUnknown (checked few text locals parsed)
 

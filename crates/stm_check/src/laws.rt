@@ -1,6 +1,6 @@
 //! What typing promises, as laws of the definitions: each function's contract is one, and its body is empty.
 
-ghost use Rattle.stm_check.specs.Laws.{Progress, Preservation, Weakening, VerdictFits, CheckIsExact, CheckErrsExactly, CheckNeverSaysNoMemory, Strengthening, UsesAreDistinct, LaterNamesChangeNothing, CheckedStay};
+ghost use Rattle.stm_check.specs.Laws.{Progress, Preservation, Weakening, VerdictFits, CheckIsExact, CheckErrsExactly, CheckNeverSaysNoMemory, Strengthening, UsesAreDistinct, LaterNamesChangeUnknown, CheckedStay};
 
 /// A well typed action has an outcome in every well typed view that has its variables.
 pub fn progress()
@@ -37,7 +37,7 @@ pub fn strengthening()
     ensures { Strengthening }
 {}
 
-/// The variables that a block names, as `Typed::uses` lists them, are apart.
+/// The variables that a block names, as `Typed::uses` lists them, are distinct: none is listed twice.
 pub fn uses_are_distinct()
     ensures { UsesAreDistinct }
 {}
@@ -48,8 +48,8 @@ pub fn check_never_says_no_memory()
 {}
 
 /// Names that are declared later change what the check finds only if it stopped at an unknown name.
-pub fn later_names_change_nothing()
-    ensures { LaterNamesChangeNothing }
+pub fn later_names_change_unknown()
+    ensures { LaterNamesChangeUnknown }
 {}
 
 /// A block that the check accepts stays what it is if more names are known.

@@ -11,7 +11,7 @@ use Rattle.stm_parse.specs.Faults.{Language, IsText, Begins, BeginsNone, IsBeyon
 use Rattle.stm_parse.specs.ParseResult.{IsTextOf, FirstAtFault, IsReported, fault_of_cause}
 use Rattle.stm_parse.specs.ParseFunction.{located, answered}
 use Rattle.stm_parse.specs.Descent.{Reading, Reader, whole}
-use Rattle.stm_parse.specs.Laws.{OneFault, TextOrFault}
+use Rattle.stm_parse.specs.Laws.{AtMostOneFault, HasNoFault}
 use Rattle.stm_parse.proofs.ReaderPromises.{plain-append, plain-length, plain-split, within-back, SaysOf, Failed}
 use Rattle.stm_parse.proofs.ReaderCorrect.{Outcome, beyond_out, Good, Any, each_says, each_reads}
 use Rattle.stm_parse.proofs.WholeTextRead.{Right, right, only}
@@ -208,15 +208,15 @@ module _ {A : Type 0} (r : Reader A) (L : Language A) (good : (n : ℕ) → Good
     reported_answered fault.TooDeep n h = (first_answered cause.TooDeep h.0 h.1).2
     reported_answered fault.NoMemory n h = absurd (n refl)
 
-    -- so is a tree
+    -- the tree of a text is the answer for it
     text_answered : (t : A) → IsTextOf L text t → answered r text ≡ Ok t
     text_answered t h = ok_answer r text h.0 h.1 t (only r L good h.0 t h.2)
 
-  pub one_fault : OneFault L
+  pub one_fault : AtMostOneFault L
   one_fault text e f n m h k = let p = reported_answered text e n h in let q = reported_answered text f m k in cc
 
-  pub text_or_fault : TextOrFault L
-  text_or_fault text t e h k = by e (reported_answered text e) k
+  pub has_no_fault : HasNoFault L
+  has_no_fault text t e h k = by e (reported_answered text e) k
     where
       by : (e : ParseFault) → (e ≢ fault.NoMemory → IsReported L text e → answered r text ≡ Err e) → IsReported L text e → e ≡ fault.NoMemory
       by fault.NoMemory f k = refl

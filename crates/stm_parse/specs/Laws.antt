@@ -38,44 +38,44 @@ TypesAreUnambiguous =
     (ls : List Lexeme) (t u : Ty) → IsText IsWholeType ls t → IsText IsWholeType ls u → t ≡ u
 
 -- two faults that are reported of a text, neither of them an out-of-memory error, are one
-abbrev pub OneFault : {A : Type 0} → Language A → Type 0
-OneFault L = (text : List ℕ) (e f : ParseFault) → e ≢ NoMemory → f ≢ NoMemory → IsReported L text e → IsReported L text f → e ≡ f
+abbrev pub AtMostOneFault : {A : Type 0} → Language A → Type 0
+AtMostOneFault L = (text : List ℕ) (e f : ParseFault) → e ≢ NoMemory → f ≢ NoMemory → IsReported L text e → IsReported L text f → e ≡ f
 
 -- of a text that has a tree no fault is reported but an out-of-memory error
-abbrev pub TextOrFault : {A : Type 0} → Language A → Type 0
-TextOrFault {A} L = (text : List ℕ) (t : A) (e : ParseFault) → IsTextOf L text t → IsReported L text e → e ≡ NoMemory
+abbrev pub HasNoFault : {A : Type 0} → Language A → Type 0
+HasNoFault {A} L = (text : List ℕ) (t : A) (e : ParseFault) → IsTextOf L text t → IsReported L text e → e ≡ NoMemory
 
 -- no two faults are reported of a text that is read as a block, out-of-memory errors apart
 abbrev pub EachBlockFaultIsOne : Type 0
-EachBlockFaultIsOne = OneFault IsBlock
+EachBlockFaultIsOne = AtMostOneFault IsBlock
 
--- nor of one that is read as a declaration
+-- no two faults are reported of a text that is read as a declaration, out-of-memory errors apart
 abbrev pub EachDeclarationFaultIsOne : Type 0
-EachDeclarationFaultIsOne = OneFault IsDeclaration
+EachDeclarationFaultIsOne = AtMostOneFault IsDeclaration
 
--- nor of one that is read as an expectation
+-- no two faults are reported of a text that is read as an expectation, out-of-memory errors apart
 abbrev pub EachExpectationFaultIsOne : Type 0
-EachExpectationFaultIsOne = OneFault IsExpectation
+EachExpectationFaultIsOne = AtMostOneFault IsExpectation
 
--- nor of one that is read as a type
+-- no two faults are reported of a text that is read as a type, out-of-memory errors apart
 abbrev pub EachTypeFaultIsOne : Type 0
-EachTypeFaultIsOne = OneFault IsWholeType
+EachTypeFaultIsOne = AtMostOneFault IsWholeType
 
 -- no fault is reported of the text of a block, an out-of-memory error apart
-abbrev pub BlockOrFault : Type 0
-BlockOrFault = TextOrFault IsBlock
+abbrev pub BlocksHaveNoFault : Type 0
+BlocksHaveNoFault = HasNoFault IsBlock
 
--- nor of that of a declaration
-abbrev pub DeclarationOrFault : Type 0
-DeclarationOrFault = TextOrFault IsDeclaration
+-- no fault is reported of the text of a declaration, an out-of-memory error apart
+abbrev pub DeclarationsHaveNoFault : Type 0
+DeclarationsHaveNoFault = HasNoFault IsDeclaration
 
--- nor of that of an expectation
-abbrev pub ExpectationOrFault : Type 0
-ExpectationOrFault = TextOrFault IsExpectation
+-- no fault is reported of the text of an expectation, an out-of-memory error apart
+abbrev pub ExpectationsHaveNoFault : Type 0
+ExpectationsHaveNoFault = HasNoFault IsExpectation
 
--- nor of that of a type
-abbrev pub TypeOrFault : Type 0
-TypeOrFault = TextOrFault IsWholeType
+-- no fault is reported of the text of a type, an out-of-memory error apart
+abbrev pub TypesHaveNoFault : Type 0
+TypesHaveNoFault = HasNoFault IsWholeType
 
 -- an operator with its sign
 abbrev pub Signed : Type 0

@@ -2,7 +2,7 @@
 
 ghost use Rattle.stm_parse.specs.ExpectationFunction.{ExpectationAnswersAreRight};
 ghost use Rattle.stm_parse.specs.Laws.{BlocksAreUnambiguous, DeclarationsAreUnambiguous, ExpectationsAreUnambiguous, TypesAreUnambiguous};
-ghost use Rattle.stm_parse.specs.Laws.{EachBlockFaultIsOne, EachDeclarationFaultIsOne, EachExpectationFaultIsOne, EachTypeFaultIsOne, BlockOrFault, DeclarationOrFault, ExpectationOrFault, TypeOrFault};
+ghost use Rattle.stm_parse.specs.Laws.{EachBlockFaultIsOne, EachDeclarationFaultIsOne, EachExpectationFaultIsOne, EachTypeFaultIsOne, BlocksHaveNoFault, DeclarationsHaveNoFault, ExpectationsHaveNoFault, TypesHaveNoFault};
 ghost use Rattle.stm_parse.specs.Laws.{ProductsGroupToTheLeft, SumsGroupToTheLeft, ComparisonsAreNotChained, ConjunctionsGroupToTheRight, DisjunctionsGroupToTheRight, ProductsBindTightest, SumsBindTighter, ComparisonsBindTighter, ConjunctionsBindTighter};
 ghost use Rattle.stm_parse.specs.ParseFunction.{BlockAnswersAreRight, DeclarationAnswersAreRight};
 ghost use Rattle.stm_parse.specs.TypeFunction.{TypeAnswersAreRight};
@@ -16,8 +16,8 @@ pub fn texts_are_unambiguous()
     ensures ty { TypesAreUnambiguous }
 {}
 
-/// Of each text one fault is reported, an out-of-memory error apart.
-pub fn each_fault_is_one()
+/// Of each text at most one fault is reported, an out-of-memory error apart.
+pub fn at_most_one_fault()
     ensures block { EachBlockFaultIsOne }
     ensures declaration { EachDeclarationFaultIsOne }
     ensures expectation { EachExpectationFaultIsOne }
@@ -25,11 +25,11 @@ pub fn each_fault_is_one()
 {}
 
 /// Of a text that has a tree no fault is reported, an out-of-memory error apart.
-pub fn tree_or_fault()
-    ensures block { BlockOrFault }
-    ensures declaration { DeclarationOrFault }
-    ensures expectation { ExpectationOrFault }
-    ensures ty { TypeOrFault }
+pub fn trees_have_no_fault()
+    ensures block { BlocksHaveNoFault }
+    ensures declaration { DeclarationsHaveNoFault }
+    ensures expectation { ExpectationsHaveNoFault }
+    ensures ty { TypesHaveNoFault }
 {}
 
 /// `a * b * c` is `(a * b) * c`, and `a - b + c` is `(a - b) + c`, for each two of `+` and `-`.

@@ -2,13 +2,13 @@
 use Rattle.std.proofs.Common.{◌≡◌, ℕ, List, Ok, Err, ap, sym, subst, ◌∙◌}
 use Rattle.stm_parse.specs.declared.token.Lexeme.{Lexeme}
 use Rattle.stm_parse.specs.Faults.{Language, IsText}
-use Rattle.stm_parse.specs.Laws.{OneFault, TextOrFault}
+use Rattle.stm_parse.specs.Laws.{AtMostOneFault, HasNoFault}
 use Rattle.stm_parse.specs.Lexing.{lexemes_of}
 use Rattle.stm_parse.specs.MaximalMunch.{TokenizationIsUnique}
 use Rattle.stm_parse.specs.ParseResult.{Lexes, IsTextOf}
 use Rattle.stm_source.specs.Readings.{HasOneAnswer}
 
-module _ {A : Type 0} (L : Language A) (trees : (ls : List Lexeme) (t u : A) → IsText L ls t → IsText L ls u → t ≡ u) (faults : OneFault L) (either : TextOrFault L) (cuts : TokenizationIsUnique) where
+module _ {A : Type 0} (L : Language A) (trees : (ls : List Lexeme) (t u : A) → IsText L ls t → IsText L ls u → t ≡ u) (faults : AtMostOneFault L) (either : HasNoFault L) (cuts : TokenizationIsUnique) where
   same_tokens : (text : List ℕ) (ls ms : List Lexeme) → Lexes text ls → Lexes text ms → ls ≡ ms
   same_tokens text ls ms (ts, p, e) (us, q, f) =
       let w : Ok ts ≡ Ok us = cuts text (Ok ts) (Ok us) p q in

@@ -20,8 +20,8 @@ pub fn texts_have_one_answer()
     ensures type_is_right { TypeAnswersAreRight }
 {
     stm_parse::laws::texts_are_unambiguous();
-    stm_parse::laws::each_fault_is_one();
-    stm_parse::laws::tree_or_fault();
+    stm_parse::laws::at_most_one_fault();
+    stm_parse::laws::trees_have_no_fault();
     stm_parse::laws::answers_are_right();
     stm_parse::laws_of_tokens::tokenization_is_unique();
 }

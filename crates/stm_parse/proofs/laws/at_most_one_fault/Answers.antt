@@ -8,7 +8,7 @@ use Rattle.stm_parse.proofs.OneFault.{one_fault}
 use Rattle.stm_parse.proofs.TypeAnswers.{good_whole_type}
 use Rattle.stm_parse.proofs.TypeReaders.{good_declaration}
 use Rattle.stm_parse.proofs.WholeTextRead.{good_block}
-use Rattle.stm_parse.proofs.laws.each_fault_is_one.Goals as goal
+use Rattle.stm_parse.proofs.laws.at_most_one_fault.Goals as goal
 
 pub returns-clause-block : goal.returns-clause-block
 returns-clause-block c = one_fault block_reader IsBlock good_block

@@ -4,20 +4,20 @@ use Rattle.stm_parse.specs.ExpectationFunction.{expectation_reader}
 use Rattle.stm_parse.specs.Expectations.{IsExpectation}
 use Rattle.stm_parse.specs.TypeFunction.{IsWholeType, type_reader}
 use Rattle.stm_parse.proofs.Expectations.{good_expectation}
-use Rattle.stm_parse.proofs.OneFault.{text_or_fault}
+use Rattle.stm_parse.proofs.OneFault.{has_no_fault}
 use Rattle.stm_parse.proofs.TypeAnswers.{good_whole_type}
 use Rattle.stm_parse.proofs.TypeReaders.{good_declaration}
 use Rattle.stm_parse.proofs.WholeTextRead.{good_block}
-use Rattle.stm_parse.proofs.laws.tree_or_fault.Goals as goal
+use Rattle.stm_parse.proofs.laws.trees_have_no_fault.Goals as goal
 
 pub returns-clause-block : goal.returns-clause-block
-returns-clause-block c = text_or_fault block_reader IsBlock good_block
+returns-clause-block c = has_no_fault block_reader IsBlock good_block
 
 pub returns-clause-declaration : goal.returns-clause-declaration
-returns-clause-declaration c = text_or_fault declaration_reader IsDeclaration good_declaration
+returns-clause-declaration c = has_no_fault declaration_reader IsDeclaration good_declaration
 
 pub returns-clause-expectation : goal.returns-clause-expectation
-returns-clause-expectation c = text_or_fault expectation_reader IsExpectation good_expectation
+returns-clause-expectation c = has_no_fault expectation_reader IsExpectation good_expectation
 
 pub returns-clause-ty : goal.returns-clause-ty
-returns-clause-ty c = text_or_fault type_reader IsWholeType good_whole_type
+returns-clause-ty c = has_no_fault type_reader IsWholeType good_whole_type
