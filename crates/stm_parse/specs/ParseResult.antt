@@ -1,5 +1,5 @@
 -- A text of the grammar, and which fault is reported of any other text.
-use Rattle.std.specs.Prelude.{◌≡◌, ℕ, ◌-◌, ◌<◌, ◌≤◌, ◌⊎◌, List, ◌∷◌, ◌++◌, length, slice_get, Option, Some, None, Ok, Err, ⊤}
+use Rattle.std.specs.Prelude.{◌≡◌, ℕ, ◌-◌, ◌<◌, ◌≤◌, ◌⊎◌, List, ◌∷◌, ◌++◌, length, slice_get, Option, Some, None, Result, Ok, Err, MatchResult, ⊤}
 use Rattle.stm_parse.specs.declared.token.Lexeme.{Lexeme}
 use Rattle.stm_parse.specs.declared.token.ErrorKind.{ErrorKind}
 use Rattle.stm_parse.specs.declared.token.ErrorKind.TheVariants as cause
@@ -80,3 +80,13 @@ fault_of_cause cause.BadNumber (Some x) = fault.BadNumber x.start
 abbrev pub fault_of_failure : List Lexeme → Failure → ParseFault
 fault_of_failure ls stop.Memory = fault.NoMemory
 fault_of_failure ls (stop.At f) = fault_of_cause f.cause (slice_get ls (length ls - f.left))
+
+-- what was read, seen by view, is what one of the trees of the text stands for; a fault is the one that is reported
+abbrev pub ReadsByGrammar : {A X Y : Type 0} → Language A → (List ℕ → A → Y) → (X → Y) → List ℕ → Result X ParseFault → Type 0
+ReadsByGrammar {A} L stands_for view text (Ok x) = (t : A) × IsTextOf L text t × (view x ≡ stands_for text t)
+ReadsByGrammar L stands_for view text (Err e) = IsReported L text e
+
+-- each text is read, with its one tree, unless memory runs out
+abbrev pub ReadsEachText : {A X Y : Type 0} → Language A → (List ℕ → A → Y) → (X → Y) → List ℕ → Result X ParseFault → Type 0
+ReadsEachText {A} L stands_for view text result =
+    (t : A) → IsTextOf L text t → MatchResult result (λ x. view x ≡ stands_for text t) (λ e. e ≡ fault.NoMemory)

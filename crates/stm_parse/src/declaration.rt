@@ -1,15 +1,15 @@
 //! A text as the declaration of a variable.
 
-ghost use Rattle.std.specs.Prelude.{◌≡◌, ◌≤◌, length, true, MatchResult, IfOk, string_bytes};
+ghost use Rattle.std.specs.Prelude.{◌≡◌, ◌≤◌, length, true, IfOk, string_bytes};
 ghost use Rattle.std.specs.Str.{IsAscii};
 ghost use Rattle.stm_terms.specs.Names.{is_name_text};
 ghost use Rattle.stm_terms.specs.ParsedAst.{IsSpan, NamesWithin, raw_term_of};
 ghost use Rattle.stm_parse.specs.Declarations.{declaration_tree_of, init_of, declaration_in, declaration_of, parsed_initial};
 ghost use Rattle.stm_terms.specs.Limits.{most_refs};
 ghost use Rattle.stm_terms.specs.UnlessNoMemory.{AnswersUnless};
-ghost use Rattle.stm_parse.specs.Grammar.{DeclarationTree, IsDeclaration};
+ghost use Rattle.stm_parse.specs.Grammar.{IsDeclaration};
 ghost use Rattle.stm_parse.specs.ParseFunction.{parsed_declaration};
-ghost use Rattle.stm_parse.specs.ParseResult.{IsTextOf, IsReported};
+ghost use Rattle.stm_parse.specs.ParseResult.{ReadsByGrammar, ReadsEachText};
 ghost use Rattle.stm_parse.specs.Descent.{declaration_reader, whole};
 ghost use Rattle.stm_parse.specs.DescentResults.{GivesResult};
 
@@ -87,15 +87,8 @@ fn whole_declaration(toks: &[Lexeme]) -> Result<RawDeclaration, Failure>
 ///
 /// docs/LANGUAGE.md, "Grammar", has the productions, and "Which grammar error is reported" the order of the faults.
 pub fn parse_declare(alloc: Global, text: &str) -> Result<Declaration, ParseFault>
-    // What is read is a text of the declaration, and a fault is the one to be reported.
-    ensures right { MatchResult result
-        (λ d. (t : DeclarationTree) × IsTextOf IsDeclaration text.now t
-        × (declaration_of d ≡ declaration_in text.now t))
-        (λ e. IsReported IsDeclaration text.now e) }
-    // Each text is read, with its one tree, unless memory runs out.
-    ensures only { (t : DeclarationTree) → IsTextOf IsDeclaration text.now t
-        → MatchResult result (λ d. declaration_of d ≡ declaration_in text.now t)
-        (λ e. e ≡ ParseFault.NoMemory) }
+    ensures right { ReadsByGrammar IsDeclaration declaration_in declaration_of text.now result }
+    ensures only { ReadsEachText IsDeclaration declaration_in declaration_of text.now result }
     // The answer is a function of the text.
     ensures answer { AnswersUnless ParseFault.NoMemory declaration_of result
         (parsed_declaration text.now) }

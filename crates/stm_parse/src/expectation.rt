@@ -1,6 +1,6 @@
 //! A text as what a variable is expected to hold.
 
-ghost use Rattle.std.specs.Prelude.{◌≡◌, length, true, MatchResult, IfOk, string_bytes};
+ghost use Rattle.std.specs.Prelude.{◌≡◌, length, true, IfOk, string_bytes};
 ghost use Rattle.std.specs.Str.{IsAscii};
 ghost use Rattle.stm_terms.specs.Names.{is_name_text};
 ghost use Rattle.stm_terms.specs.ParsedAst.{IsSpan, NamesWithin, raw_term_of};
@@ -8,8 +8,8 @@ ghost use Rattle.stm_terms.specs.UnlessNoMemory.{AnswersUnless};
 ghost use Rattle.stm_parse.specs.Descent.{whole};
 ghost use Rattle.stm_parse.specs.DescentResults.{GivesResult};
 ghost use Rattle.stm_parse.specs.ExpectationFunction.{expectation_reader, parsed_expectation};
-ghost use Rattle.stm_parse.specs.Expectations.{ExpectationTree, IsExpectation, expectation_tree_of, expectation_in, expectation_of};
-ghost use Rattle.stm_parse.specs.ParseResult.{IsTextOf, IsReported};
+ghost use Rattle.stm_parse.specs.Expectations.{IsExpectation, expectation_tree_of, expectation_in, expectation_of};
+ghost use Rattle.stm_parse.specs.ParseResult.{ReadsByGrammar, ReadsEachText};
 
 use crate::block::{fault_of_failure, lexed};
 use crate::cursor::{expect_name, unexpected};
@@ -66,15 +66,8 @@ fn whole_expectation(toks: &[Lexeme]) -> Result<RawExpectation, Failure>
 ///
 /// docs/LANGUAGE.md, "Grammar", has the productions, and "Which grammar error is reported" the order of the faults.
 pub fn parse_expectation(alloc: Global, text: &str) -> Result<Expectation, ParseFault>
-    // What is read is a text of the expectation, and a fault is the one to be reported.
-    ensures right { MatchResult result
-        (λ d. (t : ExpectationTree) × IsTextOf IsExpectation text.now t
-        × (expectation_of d ≡ expectation_in text.now t))
-        (λ e. IsReported IsExpectation text.now e) }
-    // Each text is read, with its one tree, unless memory runs out.
-    ensures only { (t : ExpectationTree) → IsTextOf IsExpectation text.now t
-        → MatchResult result (λ d. expectation_of d ≡ expectation_in text.now t)
-        (λ e. e ≡ ParseFault.NoMemory) }
+    ensures right { ReadsByGrammar IsExpectation expectation_in expectation_of text.now result }
+    ensures only { ReadsEachText IsExpectation expectation_in expectation_of text.now result }
     // The answer is a function of the text.
     ensures answer { AnswersUnless ParseFault.NoMemory expectation_of result
         (parsed_expectation text.now) }
