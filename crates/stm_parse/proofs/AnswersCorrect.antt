@@ -12,7 +12,7 @@ use Rattle.stm_parse.specs.Front.{Front}
 use Rattle.stm_parse.specs.Front as front
 use Rattle.stm_parse.specs.declared.fault.ParseFault.{ParseFault}
 use Rattle.stm_parse.specs.declared.fault.ParseFault.TheVariants as fault
-use Rattle.stm_parse.specs.Tokenizer.{cut, front_of, next, with_front, tokens_of, IsOfTokens}
+use Rattle.stm_parse.specs.Tokenizer.{cut, front_of, next, with_front, tokens_of, IsTokenFault}
 use Rattle.stm_parse.specs.Lexing.{lexemes_of}
 use Rattle.stm_parse.specs.Faults.{Language}
 use Rattle.stm_parse.specs.ParseResult.{most_bytes, most_tokens, LexesWithinLimits, IsEarly, fault_of_cause, fault_of_failure}
@@ -24,7 +24,7 @@ use Rattle.stm_parse.proofs.FaultReported.{tokens_early, early_reported, lexemes
 
 -- a fault of a text's tokens
 abbrev IsCutting : ParseFault → Type 0
-IsCutting e = IsOfTokens e × (e ≢ fault.NoMemory)
+IsCutting e = IsTokenFault e × (e ≢ fault.NoMemory)
 
 cut_fault : (k place : ℕ) (bytes : List ℕ) (e : ParseFault) → cut k place bytes ≡ Err e → IsCutting e
 unfolding cut

@@ -8,7 +8,7 @@ use Rattle.stm_parse.specs.declared.token.Failure.TheVariants as stop
 use Rattle.stm_parse.specs.declared.tokenizer.Token.{Token}
 use Rattle.stm_parse.specs.declared.fault.ParseFault.{ParseFault}
 use Rattle.stm_parse.specs.declared.fault.ParseFault.TheVariants as fault
-use Rattle.stm_parse.specs.Tokenizer.{tokens_of, IsOfTokens}
+use Rattle.stm_parse.specs.Tokenizer.{tokens_of, IsTokenFault}
 use Rattle.stm_parse.specs.Lexing.{lexemes_of}
 use Rattle.stm_parse.specs.Faults.{Language, IsText, Begins, AtFault}
 use Rattle.stm_parse.specs.ParseResult.{most_bytes, most_tokens, Lexes, LexesWithinLimits, IsTextOf, IsEarly, IsReported, fault_of_cause, fault_of_failure}
@@ -38,7 +38,7 @@ lexemes_count text [] = refl
 lexemes_count text (t ∷ ts) = ap suc (lexemes_count text ts)
 
 -- a fault of the tokens is reported before any of the grammar
-pub tokens_early : (text : List ℕ) (e : ParseFault) → length text ≤ most_bytes → (e ≢ fault.NoMemory → tokens_of text ≡ Err e) → IsOfTokens e → IsEarly text e
+pub tokens_early : (text : List ℕ) (e : ParseFault) → length text ≤ most_bytes → (e ≢ fault.NoMemory → tokens_of text ≡ Err e) → IsTokenFault e → IsEarly text e
 tokens_early text (fault.BadByte n) l h k = (l, cut_by_rules text (Err (fault.BadByte n)) (h (λ p. cc)))
 tokens_early text (fault.BadNumber n) l h k = (l, cut_by_rules text (Err (fault.BadNumber n)) (h (λ p. cc)))
 tokens_early text (fault.NameTooLong n) l h k = (l, cut_by_rules text (Err (fault.NameTooLong n)) (h (λ p. cc)))

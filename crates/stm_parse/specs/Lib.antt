@@ -5,8 +5,10 @@ pub mod Expectations
 pub mod Faults
 pub mod Grammar
 pub mod Laws
+pub mod LexedText
 pub mod Lexing
 pub mod MaximalMunch
+pub mod NameTokens
 pub mod ParseResult
 pub mod Terminals
 pub mod TypeTexts
@@ -20,4 +22,3 @@ pub mod Descent
 pub mod DescentResults
 pub mod Front
 pub mod LexerStep
-pub mod NameTokens

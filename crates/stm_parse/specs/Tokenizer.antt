@@ -85,12 +85,12 @@ IsWithin front.LongName size = ⊤
 IsWithin front.BadNumber size = ⊤
 
 -- a fault of tokens, or an out-of-memory error
-abbrev pub IsOfTokens : ParseFault → Type 0
-IsOfTokens (fault.BadByte n) = ⊤
-IsOfTokens (fault.BadNumber n) = ⊤
-IsOfTokens (fault.NameTooLong n) = ⊤
-IsOfTokens (fault.Unexpected n) = ⊥
-IsOfTokens fault.EndOfText = ⊥
-IsOfTokens fault.TooDeep = ⊥
-IsOfTokens fault.TooLarge = ⊥
-IsOfTokens fault.NoMemory = ⊤
+abbrev pub IsTokenFault : ParseFault → Type 0
+IsTokenFault (fault.BadByte n) = ⊤
+IsTokenFault (fault.BadNumber n) = ⊤
+IsTokenFault (fault.NameTooLong n) = ⊤
+IsTokenFault (fault.Unexpected n) = ⊥
+IsTokenFault fault.EndOfText = ⊥
+IsTokenFault fault.TooDeep = ⊥
+IsTokenFault fault.TooLarge = ⊥
+IsTokenFault fault.NoMemory = ⊤

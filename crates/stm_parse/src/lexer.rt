@@ -2,16 +2,16 @@
 
 ghost use Rattle.std.specs.Prelude.{◌≡◌, ◌≢◌, ◌-◌, ◌<◌, ◌≤◌, ◌∷◌, length, take, drop, map, true, MatchResult, IfOk, IfErr, IfSome, Ok, Err};
 ghost use Rattle.std.specs.List.{list_all};
-ghost use Rattle.std.specs.Str.{IsAscii};
 ghost use Rattle.stm_terms.specs.Names.{is_word_byte, starts_lower};
 ghost use Rattle.stm_parse.specs.declared.token.TokenKind.TheVariants as tok;
 ghost use Rattle.stm_parse.specs.declared.tokenizer.TokenClass.TheVariants as kind;
 ghost use Rattle.stm_parse.specs.Bytes.{is_letter, longest_word, word_len, number_len, number_of_digits};
 ghost use Rattle.stm_parse.specs.Lexing.{control_mark, action_mark, choice_mark, value_mark, word_mark, token_kind_of, class_of, token_of};
 ghost use Rattle.stm_parse.specs.ParseResult.{Lexes};
+ghost use Rattle.stm_parse.specs.LexedText.{LexesTo};
 ghost use Rattle.stm_parse.specs.LexerStep.{front_seen, IsSeen};
 ghost use Rattle.stm_parse.specs.NameTokens.{NamesOf};
-ghost use Rattle.stm_parse.specs.Tokenizer.{symbol_front, word_front, number_front, front_of, tokens_of, SpansRise, IsOfTokens, IsWithin};
+ghost use Rattle.stm_parse.specs.Tokenizer.{symbol_front, word_front, number_front, front_of, tokens_of, SpansRise, IsTokenFault, IsWithin};
 
 use crate::bytes::{
     is_blank, is_digit, is_letter, number_len, number_of, pair_mark, single_mark, word_len,
@@ -24,7 +24,7 @@ use std::alloc::Global;
 // The most tokens that room is made for before the first is found.
 const FIRST_ROOM: usize = 32;
 
-/// What is at the front of some bytes, a token with what the grammar sees in it and its length.
+/// What is at the front of some bytes: a blank, a token with what the grammar sees in it and its length in bytes, or a fault.
 #[derive(Clone, Copy)]
 pub enum Piece {
     Blank,
@@ -230,14 +230,7 @@ fn piece_at(bytes: &[u8], place: usize) -> Piece
 ///
 /// The faults are `BadByte`, `BadNumber` and `NameTooLong`.
 pub fn lexemes(alloc: Global, text: &str) -> Result<Vec<Lexeme>, ParseFault>
-    ensures cuts { MatchResult result (λ v. Lexes text.now v.items)
-        (λ e. e ≢ ParseFault.NoMemory → tokens_of text.now ≡ Err e) }
-    ensures classes { IfOk result (λ v. tokens_of text.now ≡ Ok (map token_of v.items)) }
-    ensures rise { IfOk result (λ v. SpansRise 0 (length text.now) (map token_of v.items)) }
-    // So each place of the text is between characters.
-    ensures ascii { IfOk result (λ v. IsAscii text.now) }
-    ensures names { IfOk result (λ v. NamesOf text.now v.items) }
-    ensures faults { IfErr result IsOfTokens }
+    ensures { LexesTo text.now result }
 {
     cut_lexemes(alloc, text.as_bytes())
 }
@@ -248,7 +241,7 @@ fn cut_lexemes(alloc: Global, bytes: &[u8]) -> Result<Vec<Lexeme>, ParseFault>
     ensures classes { IfOk result (λ v. tokens_of bytes.now ≡ Ok (map token_of v.items)) }
     ensures rise { IfOk result (λ v. SpansRise 0 (length bytes.now) (map token_of v.items)) }
     ensures names { IfOk result (λ v. NamesOf bytes.now v.items) }
-    ensures faults { IfErr result IsOfTokens }
+    ensures faults { IfErr result IsTokenFault }
 {
     // Few texts have more tokens than half their bytes, and long ones grow as they need.
     let mut out = Vec::with_capacity(alloc, (bytes.len() / 2).min(FIRST_ROOM))?;

@@ -4,7 +4,7 @@ ghost use Rattle.std.specs.Prelude.{◌≡◌, length, map, IfOk, IfErr, Ok};
 ghost use Rattle.std.specs.Str.{IsAscii};
 ghost use Rattle.stm_terms.specs.UnlessNoMemory.{AnswersUnless};
 ghost use Rattle.stm_parse.specs.Lexing.{class_of, token_of};
-ghost use Rattle.stm_parse.specs.Tokenizer.{tokens_of, SpansRise, IsOfTokens};
+ghost use Rattle.stm_parse.specs.Tokenizer.{tokens_of, SpansRise, IsTokenFault};
 
 use crate::fault::ParseFault;
 use crate::lexer::lexemes;
@@ -69,7 +69,7 @@ pub fn tokens(alloc: Global, text: &str) -> Result<Vec<Token>, ParseFault>
     // So each place of the text is between characters.
     ensures ascii { IfOk result (λ v. IsAscii text.now) }
     ensures rise { IfOk result (λ v. SpansRise 0 (length text.now) v.items) }
-    ensures faults { IfErr result IsOfTokens }
+    ensures faults { IfErr result IsTokenFault }
 {
     let toks = lexemes(alloc, text)?;
     with_classes(alloc, &toks)
