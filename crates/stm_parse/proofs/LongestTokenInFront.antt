@@ -13,7 +13,7 @@ use Rattle.stm_parse.specs.Front.{Front}
 use Rattle.stm_parse.specs.Front as front
 use Rattle.stm_parse.specs.declared.fault.ParseFault.TheVariants as fault
 use Rattle.stm_parse.specs.declared.fault.ParseFault.{ParseFault}
-use Rattle.stm_parse.specs.Bytes.{is_letter, is_blank, pair_mark, single_mark, word_len, number_len, decimal, number_of_digits}
+use Rattle.stm_parse.specs.Bytes.{is_letter, is_blank, pair_mark, single_mark, word_len, number_len, number_read, number_of_digits}
 use Rattle.stm_parse.specs.Tokenizer.{one_symbol, two_symbol, symbol_front, word_front, number_front, front_of}
 use Rattle.stm_parse.specs.MaximalMunch.{is_symbol, is_token, IsLongest, BeginsNoToken, token_fault}
 use Rattle.stm_parse.proofs.SymbolTexts.{symbol_has_mark, no_symbol}
@@ -158,14 +158,14 @@ right_number b rest n h = by long great refl refl
     long = nat_lt 19 (length (take n (b ∷ rest)))
 
     great : Bool
-    great = nat_lt 9223372036854775808 (decimal 0 (take n (b ∷ rest)))
+    great = nat_lt 9223372036854775808 (number_read 0 (take n (b ∷ rest)))
 
     fault_by : (s t : Bool) → long ≡ s → great ≡ t → (place : ℕ)
         → token_fault place kind.Number (take n (b ∷ rest)) ≡ cond (s || t) (Some (fault.BadNumber place)) None
     fault_by s t e f place = ap₂ (λ s t. cond (s || t) (Some (fault.BadNumber place)) None) e f
 
     by : (s t : Bool) → long ≡ s → great ≡ t
-        → IsRightFront b rest (number_front n (cond s None (cond t None (Some (decimal 0 (take n (b ∷ rest)))))))
+        → IsRightFront b rest (number_front n (cond s None (cond t None (Some (number_read 0 (take n (b ∷ rest)))))))
     by true t e f = (n, (h, fault_by true t e f))
     by false true e f = (n, (h, fault_by false true e f))
     by false false e f = (h, fault_by false false e f)

@@ -59,9 +59,9 @@ abbrev pub digit_value : ℕ → ℕ
 digit_value b = if is_digit b then b - 48 else 0
 
 -- the number that goes on with these digits
-abbrev pub decimal : ℕ → List ℕ → ℕ
-decimal n [] = n
-decimal n (b ∷ bytes) = decimal (n * 10 + digit_value b) bytes
+abbrev pub number_read : ℕ → List ℕ → ℕ
+number_read n [] = n
+number_read n (b ∷ bytes) = number_read (n * 10 + digit_value b) bytes
 
 -- the most bytes of a word
 abbrev pub longest_word : ℕ
@@ -79,5 +79,5 @@ greatest_written = 9223372036854775808
 unfoldable pub number_of_digits : List ℕ → Option ℕ
 number_of_digits bytes =
     if nat_lt most_digits (length bytes) then None
-    else (if nat_lt greatest_written (decimal 0 bytes) then None
-    else Some (decimal 0 bytes))
+    else (if nat_lt greatest_written (number_read 0 bytes) then None
+    else Some (number_read 0 bytes))

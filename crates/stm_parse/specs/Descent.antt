@@ -123,7 +123,7 @@ short_marked mark.True x rest = Ok (truth true x.start, rest)
 short_marked mark.False x rest = Ok (truth false x.start, rest)
 short_marked _ x rest = Err (unexpected (x ∷ rest))
 
--- so too by the kind of its token: a number in reach, a name, or a word
+-- an operand of one token, by the kind of the token: a number in reach, a name, or a word
 abbrev pub short_of : TokenKind → Lexeme → List Lexeme → Reading RawTerm
 short_of (sym.Number n) x rest = if in_reach n then Ok (int (pos n) x.start, rest) else Err (bad_number (x ∷ rest))
 short_of sym.Name x rest = Ok (name (span_of x), rest)
@@ -371,7 +371,7 @@ abbrev pub flat_action : Reader RawTerm → Mark → Reader Placed
 flat_action atom m [] = Err (unexpected [])
 flat_action atom m (x ∷ rest) = flat_marked atom m x rest
 
--- by the first word
+-- an action by its first word
 abbrev pub action_marked : Reader RawTerm → Option Level → Mark → Lexeme → List Lexeme → Reading Placed
 action_marked atom one mark.Do x rest = deeper one (λ l. block l.body x.start rest) (x ∷ rest)
 action_marked atom one mark.If x rest = deeper one (λ l. if_of l.expression l.action x.start rest) (x ∷ rest)
@@ -380,7 +380,7 @@ action_marked atom one mark.Catch x rest = deeper one (λ l. catch_of l.paren x.
 action_marked atom one mark.LParen x rest = deeper one (λ l. closed l.action rest) (x ∷ rest)
 action_marked atom one m x rest = flat_marked atom m x rest
 
--- so too by the kind of the first token, which has to be a word or a bracket
+-- an action by the kind of the first token, which has to be a word or a bracket
 abbrev pub action_of : Reader RawTerm → Option Level → TokenKind → Lexeme → List Lexeme → Reading Placed
 action_of atom one (sym.Mark m) x rest = action_marked atom one m x rest
 action_of atom one (sym.Number n) x rest = Err (unexpected (x ∷ rest))
@@ -441,7 +441,7 @@ bare_marked inner mark.Bool x rest = Ok (record { base = base.Bool; refs = 0 }, 
 bare_marked inner mark.LParen x rest = deeper inner (λ r. bracketed_type r rest) (x ∷ rest)
 bare_marked inner _ x rest = Err (unexpected (x ∷ rest))
 
--- so too by the kind of the first token, which has to be a mark
+-- such a type by the kind of the first token, which has to be a mark
 abbrev pub bare_of : Option (Reader Ty) → TokenKind → Lexeme → List Lexeme → Reading Ty
 bare_of inner (sym.Mark m) x rest = bare_marked inner m x rest
 bare_of inner (sym.Number n) x rest = Err (unexpected (x ∷ rest))

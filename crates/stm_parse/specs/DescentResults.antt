@@ -13,7 +13,7 @@ use Rattle.stm_parse.specs.Descent.{Reading, StopsAs}
 abbrev pub GivesResult : {X Y : Type 0} → (X → Y) → Result X Failure → Result Y Fault → Type 0
 GivesResult view result reading = MatchResult result (λ x. reading ≡ Ok (view x)) (λ e. StopsAs e reading)
 
--- so too with the tokens that are left
+-- what was read, seen by view, and the tokens that are left are what the definition reads and leaves, unless memory ran out
 abbrev pub GivesReading : {X Y : Type 0} → (X → Y) → Result (X × Bor (List Lexeme)) Failure → Reading Y → Type 0
 GivesReading view result reading = GivesResult (λ r. (view r.0, r.1.now)) result reading
 

@@ -91,7 +91,7 @@ token_of x = record { kind = class_of x.sym; start = x.start; end = x.end }
 abbrev pub lexeme_of : List ℕ → Token → Lexeme
 lexeme_of text t = record { sym = token_kind_of t.kind (slice_range text t.start t.end); start = t.start; end = t.end }
 
--- so is each
+-- the tokens of the text as the grammar sees them
 abbrev pub lexemes_of : List ℕ → List Token → List Lexeme
 lexemes_of text [] = []
 lexemes_of text (t ∷ ts) = lexeme_of text t ∷ lexemes_of text ts

@@ -9,7 +9,7 @@ use Rattle.stm_parse.specs.declared.tokenizer.TokenClass.TheVariants as kind
 use Rattle.stm_parse.specs.declared.tokenizer.Token.{Token}
 use Rattle.stm_parse.specs.declared.fault.ParseFault.{ParseFault}
 use Rattle.stm_parse.specs.declared.fault.ParseFault.TheVariants as fault
-use Rattle.stm_parse.specs.Bytes.{is_letter, is_blank, decimal, longest_word, most_digits, greatest_written}
+use Rattle.stm_parse.specs.Bytes.{is_letter, is_blank, number_read, longest_word, most_digits, greatest_written}
 use Rattle.stm_parse.specs.Tokenizer.{tokens_of}
 
 -- the symbols, each by its bytes
@@ -42,7 +42,7 @@ BeginsNoToken bytes = (k : TokenClass) (n : ℕ) → is_token k (take n bytes) �
 
 -- whether a number has too many digits, or is too great
 abbrev pub is_too_large : List ℕ → Bool
-is_too_large digits = nat_lt most_digits (length digits) || nat_lt greatest_written (decimal 0 digits)
+is_too_large digits = nat_lt most_digits (length digits) || nat_lt greatest_written (number_read 0 digits)
 
 -- the fault of a token at this place: a word that is too long, a number that is too great
 abbrev pub token_fault : ℕ → TokenClass → List ℕ → Option ParseFault

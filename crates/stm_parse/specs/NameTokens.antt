@@ -9,7 +9,7 @@ use Rattle.stm_parse.specs.declared.token.Lexeme.{Lexeme}
 abbrev pub NameSpanIsName : List ℕ → Lexeme → Type 0
 NameSpanIsName text x = x.sym ≡ tok.Name → IsSpan (length text) x.start x.end × IsNameOf text x.start x.end
 
--- so is each
+-- each token that is a name is such a span
 abbrev pub NamesOf : List ℕ → List Lexeme → Type 0
 NamesOf text [] = ⊤
 NamesOf text (x ∷ ls) = NameSpanIsName text x × NamesOf text ls

@@ -56,6 +56,6 @@ parsed_declaration text = declaration_result text (declared_tree text)
 abbrev pub BlockAnswersAreRight : Type 0
 BlockAnswersAreRight = (text : List ℕ) → IsAnswer IsBlock text (parsed_block text)
 
--- so is that for each text that is read as a declaration
+-- the answer for each text that is read as a declaration is right by the grammar
 abbrev pub DeclarationAnswersAreRight : Type 0
 DeclarationAnswersAreRight = (text : List ℕ) → IsAnswer IsDeclaration text (declared_tree text)

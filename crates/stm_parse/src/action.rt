@@ -20,7 +20,7 @@ use stm_terms::{RawAction, Span};
 // An action that is whole.
 fn whole<'t>(alloc: Global, action: RawAction, toks: &'t [Lexeme]) -> Parsed<'t, Box<RawAction>>
     ensures gives { GivesReading boxed_tree result (Ok (raw_act_of action, toks.now)) }
-    ensures shorter { IfOk result (λ r. length r.1.now ≤ length toks.now) }
+    ensures no_longer { IfOk result (λ r. length r.1.now ≤ length toks.now) }
 {
     let action = Box::new(alloc, action)?;
     Ok((action, toks))
@@ -34,17 +34,17 @@ fn placed<'t>(
     toks: &'t [Lexeme],
 ) -> Parsed<'t, (Box<RawAction>, usize)>
     ensures gives { GivesReading placed_tree result (Ok ((raw_act_of action, place), toks.now)) }
-    ensures shorter { IfOk result (λ r. length r.1.now ≤ length toks.now) }
+    ensures no_longer { IfOk result (λ r. length r.1.now ≤ length toks.now) }
 {
     let action = Box::new(alloc, action)?;
     Ok(((action, place), toks))
 }
 
-/// An action.
+/// The action at the front of the tokens, with the place where it begins, in bytes from 0. `levels` is how many levels of depth are left.
 pub fn action<'t>(alloc: Global, levels: u8, toks: &'t [Lexeme]) -> Parsed<'t, (RawAction, usize)>
     requires { levels ≤ deepest }
     ensures gives { GivesReading (λ a. (raw_act_of a.0, a.1)) result (action_at levels toks.now) }
-    ensures shorter { IfOk result (λ r. length r.1.now ≤ length toks.now) }
+    ensures no_longer { IfOk result (λ r. length r.1.now ≤ length toks.now) }
 {
     let ((action, place), rest) = boxed_action(alloc, levels, toks)?;
     Ok(((Box::into_inner(action), place), rest))
@@ -59,7 +59,7 @@ fn flat_action<'t>(
 ) -> Parsed<'t, (Box<RawAction>, usize)>
     requires { levels ≤ deepest }
     ensures gives { GivesReading placed_tree result (flat_action (atom_at levels) word toks.now) }
-    ensures shorter { IfOk result (λ r. length r.1.now ≤ length toks.now) }
+    ensures no_longer { IfOk result (λ r. length r.1.now ≤ length toks.now) }
 {
     let Some((first, rest)) = toks.split_first() else {
         return Err(unexpected(toks));
@@ -97,7 +97,7 @@ fn boxed_action<'t>(
 ) -> Parsed<'t, (Box<RawAction>, usize)>
     requires { levels ≤ deepest }
     ensures gives { GivesReading placed_tree result (action_at levels toks.now) }
-    ensures shorter { IfOk result (λ r. length r.1.now ≤ length toks.now) }
+    ensures no_longer { IfOk result (λ r. length r.1.now ≤ length toks.now) }
 {
     let Some((first, rest)) = toks.split_first() else {
         return Err(unexpected(toks));
@@ -139,7 +139,7 @@ fn write<'t>(
 ) -> Parsed<'t, (Box<RawAction>, usize)>
     requires { levels ≤ deepest }
     ensures gives { GivesReading placed_tree result (two_operands (atom_at levels) place toks.now) }
-    ensures shorter { IfOk result (λ r. length r.1.now ≤ length toks.now) }
+    ensures no_longer { IfOk result (λ r. length r.1.now ≤ length toks.now) }
 {
     let (variable, rest) = atom(alloc, levels, toks)?;
     let (value, rest) = atom(alloc, levels, rest)?;
@@ -151,7 +151,7 @@ fn write<'t>(
 fn closed<'t>(alloc: Global, levels: u8, toks: &'t [Lexeme]) -> Parsed<'t, (Box<RawAction>, usize)>
     requires { levels ≤ deepest }
     ensures gives { GivesReading placed_tree result (closed (action_at levels) toks.now) }
-    ensures shorter { IfOk result (λ r. length r.1.now ≤ length toks.now) }
+    ensures no_longer { IfOk result (λ r. length r.1.now ≤ length toks.now) }
 {
     let (inner, rest) = boxed_action(alloc, levels, toks)?;
     let rest = expect(Mark::RParen, rest)?;
@@ -164,7 +164,7 @@ fn closed<'t>(alloc: Global, levels: u8, toks: &'t [Lexeme]) -> Parsed<'t, (Box<
 fn paren<'t>(alloc: Global, levels: u8, toks: &'t [Lexeme]) -> Parsed<'t, (Box<RawAction>, usize)>
     requires { levels ≤ deepest }
     ensures gives { GivesReading placed_tree result (paren_at levels toks.now) }
-    ensures shorter { IfOk result (λ r. length r.1.now ≤ length toks.now) }
+    ensures no_longer { IfOk result (λ r. length r.1.now ≤ length toks.now) }
 {
     let Some((first, rest)) = toks.split_first() else {
         return Err(unexpected(toks));
@@ -186,7 +186,7 @@ fn or_else<'t>(
 ) -> Parsed<'t, (Box<RawAction>, usize)>
     requires { levels ≤ deepest }
     ensures gives { GivesReading placed_tree result (or_else_of (paren_at levels) place toks.now) }
-    ensures shorter { IfOk result (λ r. length r.1.now ≤ length toks.now) }
+    ensures no_longer { IfOk result (λ r. length r.1.now ≤ length toks.now) }
 {
     let ((first, _), rest) = paren(alloc, levels, toks)?;
     let ((second, at), rest) = paren(alloc, levels, rest)?;
@@ -203,7 +203,7 @@ fn catch<'t>(
 ) -> Parsed<'t, (Box<RawAction>, usize)>
     requires { levels ≤ deepest }
     ensures gives { GivesReading placed_tree result (catch_of (paren_at levels) place toks.now) }
-    ensures shorter { IfOk result (λ r. length r.1.now ≤ length toks.now) }
+    ensures no_longer { IfOk result (λ r. length r.1.now ≤ length toks.now) }
 {
     let ((action, _), rest) = paren(alloc, levels, toks)?;
     let (name, rest) = expect_name(rest)?;
@@ -229,7 +229,7 @@ fn if_then_else<'t>(
     requires { levels ≤ deepest }
     ensures gives { GivesReading placed_tree result
         (if_of (tier_at widest levels) (action_at levels) place toks.now) }
-    ensures shorter { IfOk result (λ r. length r.1.now ≤ length toks.now) }
+    ensures no_longer { IfOk result (λ r. length r.1.now ≤ length toks.now) }
 {
     let (condition, rest) = expression(alloc, levels, toks)?;
     let rest = expect(Mark::Then, rest)?;
@@ -255,7 +255,7 @@ fn block<'t>(
 ) -> Parsed<'t, (Box<RawAction>, usize)>
     requires { levels ≤ deepest }
     ensures gives { GivesReading placed_tree result (block (body_at levels) place toks.now) }
-    ensures shorter { IfOk result (λ r. length r.1.now ≤ length toks.now) }
+    ensures no_longer { IfOk result (λ r. length r.1.now ≤ length toks.now) }
 {
     let rest = expect(Mark::LBrace, toks)?;
     let (inner, rest) = body(alloc, levels, rest)?;
@@ -268,7 +268,7 @@ fn block<'t>(
 fn body<'t>(alloc: Global, levels: u8, toks: &'t [Lexeme]) -> Parsed<'t, Box<RawAction>>
     requires { levels ≤ deepest }
     ensures gives { GivesReading boxed_tree result (body_at levels toks.now) }
-    ensures shorter { IfOk result (λ r. length r.1.now ≤ length toks.now) }
+    ensures no_longer { IfOk result (λ r. length r.1.now ≤ length toks.now) }
 {
     let Some((first, rest)) = toks.split_first() else {
         return Err(unexpected(toks));
@@ -293,7 +293,7 @@ fn bound<'t>(
     requires { levels ≤ deepest }
     ensures gives { GivesReading boxed_tree result
         (bound (action_at levels) (body_at levels) name toks.now) }
-    ensures shorter { IfOk result (λ r. length r.1.now ≤ length toks.now) }
+    ensures no_longer { IfOk result (λ r. length r.1.now ≤ length toks.now) }
 {
     let toks = expect(Mark::Arrow, toks)?;
     let ((bound, at), toks) = boxed_action(alloc, levels, toks)?;
@@ -314,7 +314,7 @@ fn let_bound<'t>(alloc: Global, levels: u8, toks: &'t [Lexeme]) -> Parsed<'t, Bo
     requires { levels ≤ deepest }
     ensures gives { GivesReading boxed_tree result
         (let_bound (tier_at widest levels) (body_at levels) toks.now) }
-    ensures shorter { IfOk result (λ r. length r.1.now ≤ length toks.now) }
+    ensures no_longer { IfOk result (λ r. length r.1.now ≤ length toks.now) }
 {
     let (name, toks) = expect_name(toks)?;
     let toks = expect(Mark::Equals, toks)?;
@@ -332,7 +332,7 @@ fn sequence<'t>(alloc: Global, levels: u8, toks: &'t [Lexeme]) -> Parsed<'t, Box
     requires { levels ≤ deepest }
     ensures gives { GivesReading boxed_tree result
         (sequence (action_at levels) (body_at levels) toks.now) }
-    ensures shorter { IfOk result (λ r. length r.1.now ≤ length toks.now) }
+    ensures no_longer { IfOk result (λ r. length r.1.now ≤ length toks.now) }
 {
     let ((first, _), rest) = boxed_action(alloc, levels, toks)?;
     let Some(rest) = accept(Mark::Semicolon, rest) else {

@@ -4,7 +4,7 @@ ghost use Rattle.std.specs.Prelude.{◌≡◌, ◌≤◌, length, IfSome};
 ghost use Rattle.stm_terms.specs.Names.{is_digit, is_word_byte};
 ghost use Rattle.stm_parse.specs.declared.token.TokenKind.TheVariants as tok;
 ghost use Rattle.stm_parse.specs.declared.tokenizer.TokenClass.TheVariants as kind;
-ghost use Rattle.stm_parse.specs.Bytes.{is_letter, is_blank, pair_mark, single_mark, word_len, number_len, digit_value, decimal, most_digits, number_of_digits};
+ghost use Rattle.stm_parse.specs.Bytes.{is_letter, is_blank, pair_mark, single_mark, word_len, number_len, digit_value, number_read, most_digits, number_of_digits};
 ghost use Rattle.stm_parse.specs.Lexing.{class_of};
 
 use crate::limits::{GREATEST_WRITTEN, MOST_DIGITS};
@@ -99,7 +99,7 @@ pub(crate) fn word_len(bytes: &[u8]) -> usize
     bytes.iter().take_while(|byte| is_word_byte(**byte)).count()
 }
 
-/// How many digits are at the front.
+/// How many digits are at the front of the bytes.
 pub fn number_len(bytes: &[u8]) -> usize
     ensures { result ≡ number_len bytes.now }
 {
@@ -108,7 +108,7 @@ pub fn number_len(bytes: &[u8]) -> usize
 
 fn digit_value(byte: u8) -> u8
     ensures value { result ≡ digit_value byte }
-    ensures low { result ≤ 9 }
+    ensures few { result ≤ 9 }
 {
     if is_digit(byte) { byte - b'0' } else { 0 }
 }
@@ -132,7 +132,7 @@ pub fn number_of(digits: &[u8]) -> Option<u64>
 /// The number that digits write.
 pub fn decimal(digits: &[u8]) -> u64
     requires { length digits.now ≤ most_digits }
-    ensures { result ≡ decimal 0 digits.now }
+    ensures { result ≡ number_read 0 digits.now }
 {
     let mut value: u64 = 0;
     for digit in digits {

@@ -19,7 +19,7 @@ pub enum Grouping {
     ToRight,
 }
 
-/// No text goes on with the next token.
+/// The failure for a next token with which no text goes on, or for a text that ends too soon.
 pub fn unexpected(toks: &[Lexeme]) -> Failure
     ensures { result ≡ Failure.At (unexpected toks.now) }
 {
@@ -29,7 +29,7 @@ pub fn unexpected(toks: &[Lexeme]) -> Failure
     })
 }
 
-/// The next token is past a limit of depth.
+/// The failure for a next token that is past a limit of depth.
 pub fn too_deep(toks: &[Lexeme]) -> Failure
     ensures { result ≡ Failure.At (too_deep toks.now) }
 {
@@ -39,7 +39,7 @@ pub fn too_deep(toks: &[Lexeme]) -> Failure
     })
 }
 
-/// The next token is a number that is no `Int`.
+/// The failure for a next token that is a number and no `Int`.
 pub fn bad_number(toks: &[Lexeme]) -> Failure
     ensures { result ≡ Failure.At (bad_number toks.now) }
 {
@@ -49,7 +49,7 @@ pub fn bad_number(toks: &[Lexeme]) -> Failure
     })
 }
 
-/// One level deeper: how many levels are left there.
+/// How many levels are left one level deeper; a failure if none is left.
 pub fn one_level_deeper(levels: u8, toks: &[Lexeme]) -> Result<u8, Failure>
     ensures left { IfOk result (λ l. (0 < levels) × (l ≡ levels - 1)) }
     ensures none { IfErr result (λ e. (levels ≡ 0) × (e ≡ Failure.At (too_deep toks.now))) }
@@ -73,11 +73,11 @@ pub fn accept(mark: Mark, toks: &[Lexeme]) -> Option<&[Lexeme]>
     }
 }
 
-/// The tokens after this mark, which must be the next.
+/// The tokens after this mark, which must be the next token; otherwise it is unexpected.
 pub fn expect(mark: Mark, toks: &[Lexeme]) -> Result<&[Lexeme], Failure>
     ensures gives { MatchResult result (λ rest. Leaves rest.now (expect mark toks.now))
         (λ e. StopsAs e (expect mark toks.now)) }
-    ensures shorter { IfOk result (λ rest. length rest.now ≤ length toks.now) }
+    ensures no_longer { IfOk result (λ rest. length rest.now ≤ length toks.now) }
 {
     match toks.split_first() {
         Some((first, rest)) if first.sym.is(mark) => Ok(rest),
@@ -97,10 +97,10 @@ pub fn is_name_kind(sym: TokenKind) -> bool
     }
 }
 
-/// The token that is a name.
+/// The next token, which must be a name; otherwise it is unexpected.
 pub fn expect_name(toks: &[Lexeme]) -> Parsed<'_, Lexeme>
     ensures gives { GivesReading (λ x. x) result (expect_name toks.now) }
-    ensures shorter { IfOk result (λ r. length r.1.now ≤ length toks.now) }
+    ensures no_longer { IfOk result (λ r. length r.1.now ≤ length toks.now) }
 {
     match toks.split_first() {
         Some((first, rest)) if is_name_kind(first.sym) => Ok((*first, rest)),

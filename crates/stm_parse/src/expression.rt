@@ -43,7 +43,7 @@ fn negated(n: u64) -> i64
 // After the minus of a negative number.
 fn literal(at: usize, toks: &[Lexeme]) -> Parsed<'_, RawExpr>
     ensures gives { GivesReading raw_term_of result (literal at toks.now) }
-    ensures shorter { IfOk result (λ r. length r.1.now ≤ length toks.now) }
+    ensures no_longer { IfOk result (λ r. length r.1.now ≤ length toks.now) }
 {
     let Some((first, rest)) = toks.split_first() else {
         return Err(unexpected(toks));
@@ -62,7 +62,7 @@ fn literal(at: usize, toks: &[Lexeme]) -> Parsed<'_, RawExpr>
 fn short<'t>(first: &Lexeme, rest: &'t [Lexeme], toks: &'t [Lexeme]) -> Parsed<'t, RawExpr>
     requires { toks.now ≡ first.now ∷ rest.now }
     ensures gives { GivesReading raw_term_of result (short_of first.now.sym first.now rest.now) }
-    ensures shorter { IfOk result (λ r. length r.1.now ≤ length toks.now) }
+    ensures no_longer { IfOk result (λ r. length r.1.now ≤ length toks.now) }
 {
     match first.sym {
         TokenKind::Number(n) => {
@@ -88,7 +88,7 @@ fn bracketed<'t>(alloc: Global, levels: u8, at: usize, toks: &'t [Lexeme]) -> Pa
     requires { levels ≤ deepest }
     ensures gives { GivesReading raw_term_of result
         (bracketed (tier_at widest levels) at toks.now) }
-    ensures shorter { IfOk result (λ r. length r.1.now ≤ length toks.now) }
+    ensures no_longer { IfOk result (λ r. length r.1.now ≤ length toks.now) }
 {
     if let Some(rest) = accept(Mark::RParen, toks) {
         return Ok((RawExpr::Unit(at), rest));
@@ -107,7 +107,7 @@ fn bracketed<'t>(alloc: Global, levels: u8, at: usize, toks: &'t [Lexeme]) -> Pa
 pub fn atom<'t>(alloc: Global, levels: u8, toks: &'t [Lexeme]) -> Parsed<'t, RawExpr>
     requires { levels ≤ deepest }
     ensures gives { GivesReading raw_term_of result (atom_at levels toks.now) }
-    ensures shorter { IfOk result (λ r. length r.1.now ≤ length toks.now) }
+    ensures no_longer { IfOk result (λ r. length r.1.now ≤ length toks.now) }
 {
     let Some((first, rest)) = toks.split_first() else {
         return Err(unexpected(toks));
@@ -125,7 +125,7 @@ fn tier<'t>(alloc: Global, levels: u8, width: u8, toks: &'t [Lexeme]) -> Parsed<
     requires low { levels ≤ deepest }
     requires width { width ≤ widest }
     ensures gives { GivesReading raw_term_of result (tier_at width levels toks.now) }
-    ensures shorter { IfOk result (λ r. length r.1.now ≤ length toks.now) }
+    ensures no_longer { IfOk result (λ r. length r.1.now ≤ length toks.now) }
 {
     let (first, rest) = atom(alloc, levels, toks)?;
     climb(alloc, levels, 0, width, first, rest)
@@ -156,7 +156,7 @@ fn climb<'t>(
     requires width { width ≤ widest }
     ensures gives { GivesReading raw_term_of result
         (climb_at from width levels (raw_term_of left) toks.now) }
-    ensures shorter { IfOk result (λ r. length r.1.now ≤ length toks.now) }
+    ensures no_longer { IfOk result (λ r. length r.1.now ≤ length toks.now) }
 {
     let Some((own, op, rest)) = operator(toks) else {
         return Ok((left, toks));
@@ -186,7 +186,7 @@ fn climb_past<'t>(
     requires below { own < width }
     ensures gives { GivesReading raw_term_of result
         (climb_by (grouping_of own) own width levels (raw_term_of left) op toks.now) }
-    ensures shorter { IfOk result (λ r. length r.1.now ≤ length toks.now) }
+    ensures no_longer { IfOk result (λ r. length r.1.now ≤ length toks.now) }
 {
     match groups(own) {
         Grouping::ToLeft => {
@@ -207,11 +207,11 @@ fn climb_past<'t>(
     }
 }
 
-/// A whole expression.
+/// The expression at the front of the tokens. `levels` is how many levels of depth are left.
 pub fn expression<'t>(alloc: Global, levels: u8, toks: &'t [Lexeme]) -> Parsed<'t, RawExpr>
     requires { levels ≤ deepest }
     ensures gives { GivesReading raw_term_of result (tier_at widest levels toks.now) }
-    ensures shorter { IfOk result (λ r. length r.1.now ≤ length toks.now) }
+    ensures no_longer { IfOk result (λ r. length r.1.now ≤ length toks.now) }
 {
     tier(alloc, levels, WIDEST, toks)
 }

@@ -1,13 +1,18 @@
 //! Texts: their tokens, the grammar, and the trees that blocks, declarations, expectations and types write.
 //!
-//! What a reader must believe is in `specs/`: `Bytes` (letters, blanks, the number that digits write) and
+//! `parse_block` (`block`), `parse_declare` (`declaration`), `parse_expectation` (`expectation`) and `parse_type` (`type_text`) read a text,
+//! within `limits`; `fault` says why a text is refused. `lexer` cuts it into the tokens of `token`, by `bytes`, and `tokenizer` gives
+//! callers the tokens alone. The descent over them is in `action`, `expression` and `types`, over `cursor`. `laws` says what holds of the
+//! grammar, and `laws_of_tokens` of the tokens.
+//!
+//! What a reader has to believe is in these modules of specs/: `Bytes` (letters, blanks, the number that digits write) and
 //! `MaximalMunch` (which tokens a text has, or which fault first, as a relation), `Terminals` (reserved words and symbols
 //! as tokens), `Lexing` (reserved words, names and numbers), `Grammar` (the productions, as a relation between tokens and
-//! trees), `Faults` (which token is the first at fault), `ParseResult` (a text of the grammar, and which fault is reported of
+//! trees), `LexedText` (what the lexer makes of a text), `Faults` (which token is the first at fault), `ParseResult` (a text of the grammar, and which fault is reported of
 //! any other text), `Declarations` (what callers see of a declaration), and `Expectations` (the production of an expectation,
 //! and what callers see of it). What they see of a parsed block is with its trees in stm_terms (`specs/ParsedBlock`). The
-//! contracts of blocks, declarations and expectations rest on these relations alone. `Laws` says that a text has one tree or one fault and how operators group, and `TypeTexts` that the text of a type is
-//! read back.
+//! contracts of blocks, declarations and expectations rest on these relations alone. `Laws` says that a text has one tree or one fault
+//! and how operators group, and `TypeTexts` that the text of a type is read back.
 //!
 //! Contracts also cite two functions that say this in another way, and laws say that they are right. `tokens_of` in
 //! `Tokenizer` cuts a text: it is in the relation of `MaximalMunch`, and nothing else is (`laws_of_tokens`). `parsed_block` in

@@ -105,7 +105,7 @@ pub enum TokenKind {
 }
 
 impl TokenKind {
-    /// Whether it is this mark.
+    /// Whether the token is this mark.
     pub fn is(self, mark: Mark) -> bool
         ensures { result ≡ is_mark mark self }
     {

@@ -21,7 +21,7 @@ pub(crate) fn type_within(levels: u8, refs: u8, toks: &[Lexeme]) -> Parsed<'_, T
     requires low { levels ≤ deepest }
     requires few { refs ≤ most_refs }
     ensures gives { GivesReading (λ t. t) result (type_at levels refs toks.now) }
-    ensures shorter { IfOk result (λ r. length r.1.now ≤ length toks.now) }
+    ensures no_longer { IfOk result (λ r. length r.1.now ≤ length toks.now) }
     ensures few { IfOk result (λ r. r.0.refs + refs ≤ most_refs) }
 {
     let Some(rest) = accept(Mark::TVar, toks) else {
@@ -45,7 +45,7 @@ fn bare_type(levels: u8, refs: u8, toks: &[Lexeme]) -> Parsed<'_, Ty>
     requires low { levels ≤ deepest }
     requires few { refs ≤ most_refs }
     ensures gives { GivesReading (λ t. t) result (bare_at levels refs toks.now) }
-    ensures shorter { IfOk result (λ r. length r.1.now ≤ length toks.now) }
+    ensures no_longer { IfOk result (λ r. length r.1.now ≤ length toks.now) }
     ensures few { IfOk result (λ r. r.0.refs + refs ≤ most_refs) }
 {
     let Some((first, rest)) = toks.split_first() else {
@@ -83,7 +83,7 @@ fn bracketed_type(levels: u8, refs: u8, toks: &[Lexeme]) -> Parsed<'_, Ty>
     requires low { levels ≤ deepest }
     requires few { refs ≤ most_refs }
     ensures gives { GivesReading (λ t. t) result (bracketed_type (type_at levels refs) toks.now) }
-    ensures shorter { IfOk result (λ r. length r.1.now ≤ length toks.now) }
+    ensures no_longer { IfOk result (λ r. length r.1.now ≤ length toks.now) }
     ensures few { IfOk result (λ r. r.0.refs + refs ≤ most_refs) }
 {
     if let Some(rest) = accept(Mark::RParen, toks) {

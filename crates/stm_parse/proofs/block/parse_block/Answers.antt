@@ -1,4 +1,4 @@
-use Rattle.std.proofs.Common.{◌≡◌, length, sym, ap, ◌∙◌, subst, Ok, rules, Err, ◌≢◌}
+use Rattle.std.proofs.Common.{◌≡◌, sym, ap, ◌∙◌, subst, Ok, rules, Err, ◌≢◌}
 use Rattle.stm_terms.specs.ParsedAst.{raw_act_of}
 use Rattle.stm_terms.specs.ParsedBlock.{IsParsed}
 use Rattle.stm_parse.specs.Grammar.{IsBlock}
