@@ -14,11 +14,11 @@ RemovedAreGone = (u t : ℕ) (es : List Entry) → has_ticket u (without_ticket 
 abbrev pub MarksKeepTickets : Type 0
 MarksKeepTickets = (u t : ℕ) (out : Bool) (es : List Entry) → has_ticket u (marked t out es) ≡ has_ticket u es
 
--- the same if a queued ticket is taken
+-- a queued ticket that is taken changes whether it is out, and not which tickets are in the list
 abbrev pub SendingKeepsTickets : Type 0
 SendingKeepsTickets = (u : ℕ) (sent : Option ℕ) (es : List Entry) → has_ticket u (sent_out sent es) ≡ has_ticket u es
 
--- and if all tickets are called back
+-- a recall of all tickets changes which are out, and not which are in the list
 abbrev pub RecallKeepsTickets : Type 0
 RecallKeepsTickets = (u : ℕ) (es : List Entry) → has_ticket u (recalled es) ≡ has_ticket u es
 
