@@ -42,15 +42,15 @@ pub record FirstDiffers (history : List Event) (n : ℕ) (passes : List Known) (
   pub differs : DiffersFrom history c passes
 
 -- the refusal that an answer to closing tells, if it tells one
-abbrev pub close_told : {A : Type 0} → Result A CloseError → Option CloseError
-close_told (Ok x) = None
-close_told (Err e) = Some e
+abbrev pub close_error : {A : Type 0} → Result A CloseError → Option CloseError
+close_error (Ok x) = None
+close_error (Err e) = Some e
 
 -- what the comparison of a history with the passes tells
-abbrev pub TellsClose : Option CloseError → List Event → ℕ → List Known → Type 0
-TellsClose None history n passes = MayClose history n passes
-TellsClose (Some PassMissing) history n passes = LacksOne n passes
-TellsClose (Some (Differs c)) history n passes = FirstDiffers history n passes c
+abbrev pub ClosesAs : Option CloseError → List Event → ℕ → List Known → Type 0
+ClosesAs None history n passes = MayClose history n passes
+ClosesAs (Some PassMissing) history n passes = LacksOne n passes
+ClosesAs (Some (Differs c)) history n passes = FirstDiffers history n passes c
 
 -- the client is the first whose pass differs from a legal history, which has as many events as the passes
 pub record IsCompared (n : ℕ) (passes : List Known) (c : ℕ) : Type 0 where
@@ -61,6 +61,6 @@ pub record IsCompared (n : ℕ) (passes : List Known) (c : ℕ) : Type 0 where
   pub first : FirstDiffers history n passes c
 
 -- why a desk isn't closed
-abbrev pub ClosingTells : CloseError → ℕ → List Known → Type 0
-ClosingTells PassMissing n passes = LacksOne n passes
-ClosingTells (Differs c) n passes = IsCompared n passes c
+abbrev pub IsCloseError : CloseError → ℕ → List Known → Type 0
+IsCloseError PassMissing n passes = LacksOne n passes
+IsCloseError (Differs c) n passes = IsCompared n passes c

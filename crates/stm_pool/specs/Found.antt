@@ -4,7 +4,7 @@ use Rattle.stm_pool.specs.declared.calls.Next.{Next}
 use Rattle.stm_pool.specs.declared.calls.Next.TheVariants.{Stopped, Idle, Job}
 
 -- a job that was found has its variables in the store that comes with it
-abbrev pub IsFound : Next → Type 0
-IsFound Stopped = Unit {0}
-IsFound Idle = Unit {0}
-IsFound (Job store job) = Covers store job.block.uses
+abbrev pub CanBeEvaluated : Next → Type 0
+CanBeEvaluated Stopped = Unit {0}
+CanBeEvaluated Idle = Unit {0}
+CanBeEvaluated (Job store job) = Covers store job.block.uses

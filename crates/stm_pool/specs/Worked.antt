@@ -10,7 +10,7 @@ are_installed [] = true
 are_installed (e ∷ es) = is_install e.what && are_installed es
 
 -- the same client, with deliveries added alone
-pub record Worked (old new : Known) : Type 0 where
+pub record OnlyDelivers (old new : Known) : Type 0 where
   pub client : new.client ≡ old.client
   pub added : List Event
   pub own : new.own ≡ old.own ++ added

@@ -10,7 +10,7 @@ ghost use Rattle.stm_events.specs.declared.event.Event.{Event as AnyEvent};
 ghost use Rattle.stm_events.specs.declared.event.What.TheVariants.{Submitted, Cancelled, Declared as DeclaredLate};
 ghost use Rattle.stm_desk.specs.Events.{finish_of};
 ghost use Rattle.stm_pool.specs.Own.{with_own};
-ghost use Rattle.stm_pool.specs.Found.{IsFound};
+ghost use Rattle.stm_pool.specs.Found.{CanBeEvaluated};
 ghost use Rattle.stm_pool.specs.Shown.{IsShown, IsPresentView};
 
 use crate::errors::ViewError;
@@ -44,9 +44,9 @@ impl<L: Ledger> SharedDesk<L> {
         pass: &mut Pass<L>,
         block: SharedBlock,
     ) -> Result<u32, SubmitError>
-        ensures ok { IfOk result (λ t. pass.new
+        ensures accepted { IfOk result (λ t. pass.new
             ≡ with_own pass.old (event pass.old.client (Submitted t block))) }
-        ensures err { OnErr result (pass.new ≡ pass.old) }
+        ensures unchanged { OnErr result (pass.new ≡ pass.old) }
     {
         let answer = self.lock.lock(rt).submit(pass, block);
         if answer.is_ok() {
@@ -66,9 +66,9 @@ impl<L: Ledger> SharedDesk<L> {
         value: Value,
     ) -> Result<u32, LateDeclareError>
         requires name { IsTrue (is_name_text name.now) }
-        ensures ok { OnOk result (pass.new
+        ensures accepted { OnOk result (pass.new
             ≡ with_own pass.old (event pass.old.client (DeclaredLate name.now kind value))) }
-        ensures err { OnErr result (pass.new ≡ pass.old) }
+        ensures unchanged { OnErr result (pass.new ≡ pass.old) }
     {
         let answer = self.lock.lock(rt).declare(pass, name, kind, value);
         if answer.is_ok() {
@@ -84,9 +84,9 @@ impl<L: Ledger> SharedDesk<L> {
         pass: &mut Pass<L>,
         ticket: u32,
     ) -> Result<Finish, FinishError>
-        ensures ok { IfOk result (λ f. pass.new ≡ with_own pass.old (event pass.old.client
+        ensures accepted { IfOk result (λ f. pass.new ≡ with_own pass.old (event pass.old.client
             (finish_of ticket f))) }
-        ensures err { OnErr result (pass.new ≡ pass.old) }
+        ensures unchanged { OnErr result (pass.new ≡ pass.old) }
     {
         let answer = self.lock.lock(rt).finish(pass, ticket);
         if answer.is_ok() {
@@ -103,9 +103,9 @@ impl<L: Ledger> SharedDesk<L> {
         pass: &mut Pass<L>,
         ticket: u32,
     ) -> Result<(), CancelError>
-        ensures ok { OnOk result (pass.new
+        ensures accepted { OnOk result (pass.new
             ≡ with_own pass.old (event pass.old.client (Cancelled ticket))) }
-        ensures err { OnErr result (pass.new ≡ pass.old) }
+        ensures unchanged { OnErr result (pass.new ≡ pass.old) }
     {
         let answer = self.lock.lock(rt).cancel(pass, ticket);
         if answer.is_ok() {
@@ -121,9 +121,9 @@ impl<L: Ledger> SharedDesk<L> {
         pass: &mut Pass<L>,
         message: Evaluated,
     ) -> Result<(), (Evaluated, DeliverError)>
-        ensures ok { OnOk result (pass.new ≡ with_own pass.old (event pass.old.client
+        ensures accepted { OnOk result (pass.new ≡ with_own pass.old (event pass.old.client
             (installation_of message))) }
-        ensures err { OnErr result (pass.new ≡ pass.old) }
+        ensures unchanged { OnErr result (pass.new ≡ pass.old) }
         ensures back { IfErr result (λ e. e.0 ≡ message) }
     {
         let answer = self.lock.lock(rt).deliver(pass, message);
@@ -139,9 +139,9 @@ impl<L: Ledger> SharedDesk<L> {
     /// What is there now: the store and the length of a legal history, which has this client's
     /// events and is no shorter than what it has seen. The client has seen it from then on.
     pub fn view<R: Wait>(&self, rt: &R, pass: &mut Pass<L>) -> Result<View, ViewError>
-        ensures ok { IfOk result (λ v. (table : List Declared) × (history : List AnyEvent)
+        ensures done { IfOk result (λ v. (table : List Declared) × (history : List AnyEvent)
             × IsShown table history pass.old pass.new v) }
-        ensures err { OnErr result (pass.new ≡ pass.old) }
+        ensures unchanged { OnErr result (pass.new ≡ pass.old) }
     {
         self.lock.lock(rt).view(pass)
     }
@@ -150,9 +150,9 @@ impl<L: Ledger> SharedDesk<L> {
     /// seen. The client has seen it from then on. It costs a copy of the store, however long the
     /// history is.
     pub fn present<R: Wait>(&self, rt: &R, pass: &mut Pass<L>) -> Result<View, ViewError>
-        ensures ok { IfOk result (λ v. (table : List Declared) × (history : List AnyEvent)
+        ensures done { IfOk result (λ v. (table : List Declared) × (history : List AnyEvent)
             × IsPresentView table history pass.old pass.new v) }
-        ensures err { OnErr result (pass.new ≡ pass.old) }
+        ensures unchanged { OnErr result (pass.new ≡ pass.old) }
     {
         self.lock.lock(rt).present(pass)
     }
@@ -160,7 +160,7 @@ impl<L: Ledger> SharedDesk<L> {
     /// Waits until a ticket is queued or the desk is stopped, and takes the ticket. `Idle` where
     /// there is none after all.
     pub fn next_job<R: Wait>(&self, rt: &R) -> Result<Next, NoMemory>
-        ensures { IfOk result (λ n. IsFound n) }
+        ensures { IfOk result (λ n. CanBeEvaluated n) }
     {
         let mut guard = self
             .queued

@@ -2,7 +2,7 @@
 
 ghost use Rattle.std.specs.Prelude.{◌≡◌, true, length, IfOk, IfErr};
 ghost use Rattle.stm_pool.specs.Own.{are_below, events_in_passes};
-ghost use Rattle.stm_pool.specs.Closing.{MayClose, ClosingTells};
+ghost use Rattle.stm_pool.specs.Closing.{MayClose, IsCloseError};
 
 use crate::errors::CloseError;
 use crate::guarded::Guarded;
@@ -30,7 +30,7 @@ impl<L: Ledger> SharedDesk<L> {
         ensures counted { IfOk result (λ r. r.events ≡ events_in_passes passes.items) }
         ensures all { IfOk result (λ r. MayClose r.desk.history self passes.items) }
         ensures only { IfOk result (λ r. are_below self r.desk.history ≡ true) }
-        ensures refused { IfErr result (λ e. ClosingTells e.2 self passes.items) }
+        ensures refused { IfErr result (λ e. IsCloseError e.2 self passes.items) }
         ensures back { IfErr result (λ e. (e.0 ≡ self) × (e.1 ≡ passes)) }
     {
         let SharedDesk {

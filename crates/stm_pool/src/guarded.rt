@@ -3,7 +3,7 @@
 ghost use Rattle.std.specs.Prelude.{◌≡◌, ◌≢◌, ◌<◌, ◌⊎◌, false, Some, length, option_map, is_some, IsTrue, IfOk, OnOk, IfErr, OnErr, IfSome};
 ghost use Rattle.stm_terms.specs.Names.{is_name_text};
 ghost use Rattle.stm_terms.specs.UnlessNoMemory.{RefusedAs};
-ghost use Rattle.stm_store.specs.Cells.{plains, Covers, applied_answer as told_of};
+ghost use Rattle.stm_store.specs.Cells.{plains, Covers, applied_answer};
 ghost use Rattle.stm_eval.specs.EvaluatedFields.{message_ticket};
 ghost use Rattle.stm_events.specs.declared.event.What.TheVariants.{Submitted, Cancelled, Declared as DeclaredLate};
 ghost use Rattle.stm_machine.specs.JobsHandedOut.{block_at};
@@ -15,7 +15,7 @@ ghost use Rattle.stm_desk.specs.Events.{finish_of};
 ghost use Rattle.stm_desk.specs.Refusals.{submit_refusal, late_declare_refusal, cancel_refusal, finish_refusal, RefusesDelivery, requeued_if_overtaken};
 ghost use Rattle.stm_pool.specs.Own.{own_of, with_own, events_in_passes};
 ghost use Rattle.stm_pool.specs.Shown.{IsShown, IsPresentView};
-ghost use Rattle.stm_pool.specs.Closing.{close_told, TellsClose, MayClose, ClosingTells};
+ghost use Rattle.stm_pool.specs.Closing.{close_error, ClosesAs, MayClose, IsCloseError};
 
 use crate::errors::{CloseError, ViewError};
 use crate::pass::{Pass, audit_passes, find_pass, is_own, lacks_one};
@@ -64,8 +64,8 @@ impl<L: Ledger> Guarded<L> {
         // Unless memory runs out first, it is refused as the desk's own call is.
         ensures refused { result ≢ Err SubmitError.NoMemory
             → RefusedAs SubmitError.NoMemory (submit_refusal self.old.desk block) result }
-        ensures err { OnErr result ((self.new.desk ≡ self.old.desk) × (pass.new ≡ pass.old)) }
-        ensures stopped { self.new.stopped ≡ self.old.stopped }
+        ensures unchanged { OnErr result ((self.new.desk ≡ self.old.desk) × (pass.new ≡ pass.old)) }
+        ensures same { self.new.stopped ≡ self.old.stopped }
     {
         let Guarded { desk, book, .. } = self;
         pass.own.reserve(1)?;
@@ -101,8 +101,8 @@ impl<L: Ledger> Guarded<L> {
         // Unless memory runs out first, it is refused as the desk's own call is.
         ensures refused { result ≢ Err LateDeclareError.NoMemory
             → RefusedAs LateDeclareError.NoMemory (late_declare_refusal self.old.desk name.now kind value) result }
-        ensures err { OnErr result ((self.new.desk ≡ self.old.desk) × (pass.new ≡ pass.old)) }
-        ensures stopped { self.new.stopped ≡ self.old.stopped }
+        ensures unchanged { OnErr result ((self.new.desk ≡ self.old.desk) × (pass.new ≡ pass.old)) }
+        ensures same { self.new.stopped ≡ self.old.stopped }
     {
         let Guarded { desk, book, .. } = self;
         let alloc = *pass.own.allocator();
@@ -132,8 +132,8 @@ impl<L: Ledger> Guarded<L> {
         // Unless memory runs out first, it is refused as the desk's own call is.
         ensures refused { result ≢ Err CancelError.NoMemory
             → RefusedAs CancelError.NoMemory (cancel_refusal self.old.desk ticket) result }
-        ensures err { OnErr result ((self.new.desk ≡ self.old.desk) × (pass.new ≡ pass.old)) }
-        ensures stopped { self.new.stopped ≡ self.old.stopped }
+        ensures unchanged { OnErr result ((self.new.desk ≡ self.old.desk) × (pass.new ≡ pass.old)) }
+        ensures same { self.new.stopped ≡ self.old.stopped }
     {
         let Guarded { desk, book, .. } = self;
         pass.own.reserve(1)?;
@@ -155,10 +155,10 @@ impl<L: Ledger> Guarded<L> {
         ensures pass { IfOk result (λ f. pass.new ≡ with_own pass.old (event pass.old.client
             (finish_of ticket f))) }
         ensures applied { IfOk result (λ f.
-            f.applied ≡ told_of (state_of self.old.desk).store f.verdict) }
+            f.applied ≡ applied_answer (state_of self.old.desk).store f.verdict) }
         ensures refused { RefusedAs FinishError.NoMemory (finish_refusal self.old.desk ticket) result }
-        ensures err { OnErr result ((self.new.desk ≡ self.old.desk) × (pass.new ≡ pass.old)) }
-        ensures stopped { self.new.stopped ≡ self.old.stopped }
+        ensures unchanged { OnErr result ((self.new.desk ≡ self.old.desk) × (pass.new ≡ pass.old)) }
+        ensures same { self.new.stopped ≡ self.old.stopped }
     {
         let Guarded { desk, book, .. } = self;
         let client = pass.client;
@@ -185,8 +185,8 @@ impl<L: Ledger> Guarded<L> {
         ensures back { IfErr result (λ e. e.0 ≡ message) }
         ensures left { IfErr result (λ e. self.new.desk
             ≡ requeued_if_overtaken e.1 (message_ticket message) self.old.desk) }
-        ensures err { OnErr result (pass.new ≡ pass.old) }
-        ensures stopped { self.new.stopped ≡ self.old.stopped }
+        ensures unchanged { OnErr result (pass.new ≡ pass.old) }
+        ensures same { self.new.stopped ≡ self.old.stopped }
     {
         let Guarded { desk, book, .. } = self;
         let alloc = *pass.own.allocator();
@@ -220,8 +220,8 @@ impl<L: Ledger> Guarded<L> {
             ≡ record self.old.desk {
               pending = sent_out (first_queued self.old.desk.pending) self.old.desk.pending;
             }) }
-        ensures err { OnErr result (self.new.desk ≡ self.old.desk) }
-        ensures stopped { self.new.stopped ≡ self.old.stopped }
+        ensures unchanged { OnErr result (self.new.desk ≡ self.old.desk) }
+        ensures same { self.new.stopped ≡ self.old.stopped }
     {
         let (store, mut jobs) = self.desk.take(1)?;
         match jobs.pop() {
@@ -235,7 +235,7 @@ impl<L: Ledger> Guarded<L> {
         ensures was { result ≡ is_out ticket self.old.desk.pending }
         ensures desk { self.new.desk
             ≡ record self.old.desk { pending = marked ticket false self.old.desk.pending } }
-        ensures stopped { self.new.stopped ≡ self.old.stopped }
+        ensures same { self.new.stopped ≡ self.old.stopped }
     {
         self.desk.hand_back(ticket)
     }
@@ -257,9 +257,9 @@ impl<L: Ledger> Guarded<L> {
     /// The store and the number of events, which the client has seen from then on, if the history
     /// has the client's events: all of them are compared.
     pub fn view(&self, pass: &mut Pass<L>) -> Result<View, ViewError>
-        ensures ok { IfOk result (λ v.
+        ensures done { IfOk result (λ v.
             IsShown self.now.desk.table self.now.desk.history pass.old pass.new v) }
-        ensures err { OnErr result (pass.new ≡ pass.old) }
+        ensures unchanged { OnErr result (pass.new ≡ pass.old) }
         ensures lost { result ≡ Err ViewError.Lost
             → (own_of pass.old.client self.now.desk.history ≢ pass.old.own)
             ⊎ (length self.now.desk.history < pass.old.seen) }
@@ -273,9 +273,9 @@ impl<L: Ledger> Guarded<L> {
     /// The store and the number of events, which the client has seen from then on. The client's
     /// events aren't compared with the history, so it costs the same however long that is.
     pub fn present(&self, pass: &mut Pass<L>) -> Result<View, ViewError>
-        ensures ok { IfOk result (λ v.
+        ensures done { IfOk result (λ v.
             IsPresentView self.now.desk.table self.now.desk.history pass.old pass.new v) }
-        ensures err { OnErr result (pass.new ≡ pass.old) }
+        ensures unchanged { OnErr result (pass.new ≡ pass.old) }
         ensures lost { result ≡ Err ViewError.Lost → length self.now.desk.history < pass.old.seen }
     {
         // The history is known to be legal by this.
@@ -294,7 +294,7 @@ impl<L: Ledger> Guarded<L> {
     /// Whether these are the passes of `count` clients, in any order, and each has its client's
     /// events.
     pub fn agrees(&self, passes: &[Pass<L>], count: u32) -> Result<(), CloseError>
-        ensures { TellsClose (close_told result) self.now.desk.history count passes.now }
+        ensures { ClosesAs (close_error result) self.now.desk.history count passes.now }
     {
         if lacks_one(passes, count) {
             return Err(CloseError::PassMissing);
@@ -316,8 +316,8 @@ impl<L: Ledger> Guarded<L> {
     /// have. Nothing changes.
     pub(crate) fn compare(&mut self, passes: &mut [Pass<L>], count: u32) -> Result<(), CloseError>
         requires { count ≡ L.parts }
-        ensures ok { OnOk result (MayClose self.old.desk.history count passes.old) }
-        ensures refused { IfErr result (λ e. ClosingTells e count passes.old) }
+        ensures done { OnOk result (MayClose self.old.desk.history count passes.old) }
+        ensures refused { IfErr result (λ e. IsCloseError e count passes.old) }
         ensures counted { length passes.old ≡ count
             → length self.old.desk.history ≡ events_in_passes passes.old }
         ensures desk { self.new.desk ≡ self.old.desk }

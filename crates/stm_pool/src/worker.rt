@@ -3,7 +3,7 @@
 ghost use Rattle.std.specs.Prelude.{◌≡◌, ◌≤◌, Some};
 ghost use Rattle.stm_terms.specs.Limits.{max_levels};
 ghost use Rattle.stm_store.specs.Cells.{Covers};
-ghost use Rattle.stm_pool.specs.Worked.{Worked};
+ghost use Rattle.stm_pool.specs.Worked.{OnlyDelivers};
 
 use crate::calls::Next;
 use crate::pass::Pass;
@@ -44,7 +44,7 @@ pub fn work<L: Ledger, G: Gate<R>, R: Wait + Threads + Sync>(
     levels: u32,
 ) -> (Pass<L>, WorkEnd)
     requires { levels ≤ max_levels }
-    ensures { Worked pass result.0 }
+    ensures { OnlyDelivers pass result.0 }
 {
     let mut pass = pass;
     for _ in rt.forever() {
@@ -65,7 +65,7 @@ fn round<L: Ledger, G: Gate<R>, R: Wait + Threads + Sync>(
     levels: u32,
 ) -> Option<WorkEnd>
     requires { levels ≤ max_levels }
-    ensures { Worked pass.old pass.new }
+    ensures { OnlyDelivers pass.old pass.new }
 {
     match shared.next_job(rt) {
         Ok(Next::Job(store, job)) => do_job(rt, alloc, shared, gate, pass, levels, &store, job),
@@ -91,7 +91,7 @@ fn do_job<L: Ledger, G: Gate<R>, R: Wait + Threads + Sync>(
 ) -> Option<WorkEnd>
     requires levels { levels ≤ max_levels }
     requires covered { Covers store.now job.block.uses }
-    ensures { Worked pass.old pass.new }
+    ensures { OnlyDelivers pass.old pass.new }
 {
     let ticket = job.ticket;
     if !gate.before(rt, ticket) {
@@ -113,7 +113,7 @@ fn deliver<L: Ledger, G: Gate<R>, R: Wait>(
     ticket: u32,
     message: Evaluated,
 ) -> Option<WorkEnd>
-    ensures { Worked pass.old pass.new }
+    ensures { OnlyDelivers pass.old pass.new }
 {
     match shared.deliver(rt, pass, message) {
         Ok(()) => {
