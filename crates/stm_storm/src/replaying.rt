@@ -34,7 +34,7 @@ fn judge(alloc: Global, table: &Table, report: &Report) -> Result<Replay, NoMemo
 }
 
 /// Replays the history of a storm's desk over its table, if the desk could be closed.
-pub fn replay_storm(
+pub(crate) fn replay_storm(
     alloc: Global,
     table: &Table,
     counts: &[Counts],

@@ -52,7 +52,7 @@ fn write_events_line(events: u32, out: &mut String) -> Result<(), NoMemory>
 }
 
 /// Appends what the clients did, how many events there are, and what the replay found.
-pub fn write_end(counts: &[Counts], replay: Replay, out: &mut String) -> Result<(), NoMemory>
+pub(crate) fn write_end(counts: &[Counts], replay: Replay, out: &mut String) -> Result<(), NoMemory>
     ensures { OnOk result
         (string_bytes out.new ≡ string_bytes out.old ++ end_text counts.now replay) }
 {
