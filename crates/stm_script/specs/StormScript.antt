@@ -67,6 +67,10 @@ abbrev pub sections_so_far : List (List Task) → Option Begun → List (List Ta
 sections_so_far ended None = ended
 sections_so_far ended (Some b) = ended ++ b.tasks ∷ []
 
+-- the section under way, if any has begun, has ended
+abbrev pub without_begun : PartialScript → PartialScript
+without_begun r = record { table = r.table; ended = sections_so_far r.ended r.begun; begun = None }
+
 -- the next section begins
 abbrev pub with_section : PartialScript → PartialScript
 with_section r = record {
