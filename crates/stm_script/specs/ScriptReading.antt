@@ -28,8 +28,9 @@ abbrev pub or_refused : {Y : Type 0} → Result Y Refusal → Result Y LineFault
 or_refused (Ok y) = Ok y
 or_refused (Err refusal) = Err (Faulty (Refused refusal))
 
--- a line, or a part of it, leads to the script under way that the definitions give, or is faulty for the reason that they give, unless memory ran out
-abbrev pub ComesTo : Result Unit LineFault → PartialScript → Result PartialScript Reason → Type 0
+-- a line, or a part of it, leads to the script under way that the definitions give, or is faulty for the reason that they give, unless memory ran out;
+-- scripts of storms and of explorations are read so
+abbrev pub ComesTo : {S : Type 0} → Result Unit LineFault → S → Result S Reason → Type 0
 ComesTo result script answer = AnswersUnless NoMemory (λ _. script) result (or_faulty answer)
 
 -- a text reads to what the definitions give, or makes its line faulty by the refusal that they give, unless memory ran out
