@@ -1,4 +1,3 @@
-pub mod ClientLines
 pub mod FailedReplays
 pub mod LegalStorms
 pub mod WrittenStorms
