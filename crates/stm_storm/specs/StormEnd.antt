@@ -26,7 +26,7 @@ IsReplayed table history NotClosed = ⊥
 IsReplayed table history (NotLegal n) = ¬ IsLegal table history × (n ≡ length history)
 IsReplayed table history (Legal n) = IsLegal table history × (n ≡ length history)
 
--- the same of a desk that may not have been closed
+-- what is found of the history of a desk that may not have been closed
 abbrev pub IsReplayedIfClosed : List Declared → Option Report → Replay → Type 0
 IsReplayedIfClosed table None replay = replay ≡ NotClosed
 IsReplayedIfClosed table (Some report) replay = IsReplayed table report.desk.history replay
