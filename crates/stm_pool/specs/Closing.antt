@@ -1,4 +1,4 @@
--- When a shared desk may be closed, and what its refusal says.
+-- When a shared desk may be closed, and why it isn't.
 use Rattle.std.specs.Prelude.{◌≡◌, ◌≢◌, ◌⊎◌, ℕ, ◌<◌, true, ◌==◌, List, [], ◌∷◌, length, if◌then◌else◌, Option, Some, None, Result, Ok, Err, is_some, IsSomeAnd}
 use Rattle.stm_store.specs.Tables.{Declared}
 use Rattle.stm_events.specs.declared.event.Event.{Event}
@@ -41,12 +41,12 @@ pub record FirstDiffers (history : List Event) (n : ℕ) (passes : List Known) (
   pub before : (b : ℕ) → b < c → AgreesWith history b passes
   pub differs : DiffersFrom history c passes
 
--- the refusal that an answer to closing tells, if it tells one
+-- the error of a result, if it is one
 abbrev pub close_error : {A : Type 0} → Result A CloseError → Option CloseError
 close_error (Ok x) = None
 close_error (Err e) = Some e
 
--- what the comparison of a history with the passes tells
+-- what the comparison of a history with the passes says, by the error that it returns, if it does
 abbrev pub ClosesAs : Option CloseError → List Event → ℕ → List Known → Type 0
 ClosesAs None history n passes = MayClose history n passes
 ClosesAs (Some PassMissing) history n passes = LacksOne n passes

@@ -37,7 +37,7 @@ pub record CountsEvents (own : List Event) (c : Counts) : Type 0 where
   pub finished : c.finished ≡ how_many is_finish own
   pub cancelled : c.cancelled ≡ how_many is_cancelled own
 
--- the same of the clients from this one on, one after another
+-- the counts of the clients from this one on, one after another, are those of their events
 abbrev pub CountsClients : List Event → ℕ → List Counts → Type 0
 CountsClients history client [] = ⊤
 CountsClients history client (c ∷ cs) = CountsEvents (own_of client history) c × CountsClients history (client + 1) cs

@@ -9,7 +9,7 @@ abbrev pub are_installed : List Event → Bool
 are_installed [] = true
 are_installed (e ∷ es) = is_install e.what && are_installed es
 
--- the same client, with deliveries added alone
+-- it is the pass of the same client, to whose events only deliveries were added
 pub record OnlyDelivers (old new : Known) : Type 0 where
   pub client : new.client ≡ old.client
   pub added : List Event

@@ -157,7 +157,7 @@ impl<L: Ledger> SharedDesk<L> {
         self.lock.lock(rt).present(pass)
     }
 
-    /// Waits until a ticket is queued or the desk is stopped, and takes the ticket. `Idle` where
+    /// Waits until a ticket is queued or the desk is stopped, and takes the ticket. `Idle` if
     /// there is none after all.
     pub fn next_job<R: Wait>(&self, rt: &R) -> Result<Next, NoMemory>
         ensures { IfOk result (λ n. CanBeEvaluated n) }
@@ -183,7 +183,7 @@ impl<L: Ledger> SharedDesk<L> {
         was
     }
 
-    /// Waits until there are more than `seen` events, and tells how many; nothing where the desk
+    /// Waits until there are more than `seen` events, and returns how many; nothing if the desk
     /// was stopped before.
     pub fn wait_past<R: Wait>(&self, rt: &R, seen: u32) -> Option<u32>
         ensures { IfSome result (λ n. seen < n) }

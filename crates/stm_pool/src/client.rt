@@ -38,7 +38,7 @@ impl Extra {
     }
 }
 
-/// Does the tasks of a section in order. Where memory runs out, the desk is stopped and nothing is
+/// Does the tasks of a section in order. If memory runs out, the desk is stopped and nothing is
 /// counted.
 pub(crate) fn do_section<L: Ledger, R: Wait>(
     rt: &R,
@@ -94,7 +94,7 @@ fn do_task<L: Ledger, R: Wait>(
     }
 }
 
-/// The ticket of the section's submission of this number; none where it was refused.
+/// The ticket of the section's submission of this number; none if it was refused.
 fn ticket_of(tickets: &[Option<u32>], number: usize) -> Option<u32> {
     match tickets.get(number) {
         Some(ticket) => *ticket,
@@ -125,7 +125,7 @@ fn submit_block<L: Ledger, R: Wait>(
 }
 
 /// Finishes a ticket as soon as its evaluation is current: tries it, and again whenever there are
-/// more events than there were before the last try. Refused where the desk is stopped before, or
+/// more events than there were before the last try. Refused if the desk is stopped before, or
 /// refuses for another reason.
 fn finish_in_time<L: Ledger, R: Wait>(
     rt: &R,
@@ -147,7 +147,7 @@ fn finish_in_time<L: Ledger, R: Wait>(
     unreachable!()
 }
 
-/// Tries to finish a ticket; nothing where it isn't evaluated, or its evaluation is stale.
+/// Tries to finish a ticket; nothing if it isn't evaluated, or its evaluation is stale.
 fn finish_once<L: Ledger, R: Wait>(
     rt: &R,
     shared: &SharedDesk<L>,
@@ -175,7 +175,7 @@ fn cancel_once<L: Ledger, R: Wait>(
     }
 }
 
-/// Whether a variable has this value. Missed where there is no such variable, or the client is
+/// Whether a variable has this value. Missed if there is no such variable, or the client is
 /// shown no store.
 fn expect_value<L: Ledger, R: Wait>(
     rt: &R,

@@ -11,7 +11,7 @@ pub enum ViewError {
     NoMemory,
 }
 
-/// Why a desk can't be closed. `Differs` tells the client whose events in the history are not those
+/// Why a desk can't be closed. `Differs` has the client whose events in the history are not those
 /// of its pass.
 #[derive(Clone, Copy, Debug, PartialEq, Eq, Error)]
 pub enum CloseError {

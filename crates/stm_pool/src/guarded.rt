@@ -55,7 +55,7 @@ pub struct View {
 
 impl<L: Ledger> Guarded<L> {
     /// `Desk::submit`; the event joins the pass's list too. Memory for the list is taken first, so
-    /// `NoMemory` can stand before the desk's own refusals.
+    /// `NoMemory` can come before the desk's own refusals.
     pub fn submit(&mut self, pass: &mut Pass<L>, block: SharedBlock) -> Result<u32, SubmitError>
         ensures desk { IfOk result (λ t. self.new.desk
             ≡ with_event self.old.desk pass.old.client (Submitted t block)) }
@@ -83,7 +83,7 @@ impl<L: Ledger> Guarded<L> {
         Ok(ticket)
     }
 
-    /// `Desk::declare`; the event joins the pass's list too, and `NoMemory` can stand before the
+    /// `Desk::declare`; the event joins the pass's list too, and `NoMemory` can come before the
     /// desk's own refusals.
     pub fn declare(
         &mut self,
@@ -122,7 +122,7 @@ impl<L: Ledger> Guarded<L> {
         Ok(number)
     }
 
-    /// `Desk::cancel`; the event joins the pass's list too, and `NoMemory` can stand before the
+    /// `Desk::cancel`; the event joins the pass's list too, and `NoMemory` can come before the
     /// desk's own refusals.
     pub fn cancel(&mut self, pass: &mut Pass<L>, ticket: u32) -> Result<(), CancelError>
         ensures desk { OnOk result (self.new.desk
@@ -167,7 +167,7 @@ impl<L: Ledger> Guarded<L> {
         Ok(finish)
     }
 
-    /// `Desk::deliver`; the event joins the pass's list too, and `NoMemory` can stand before the
+    /// `Desk::deliver`; the event joins the pass's list too, and `NoMemory` can come before the
     /// desk's own refusals.
     pub fn deliver(
         &mut self,
@@ -208,7 +208,7 @@ impl<L: Ledger> Guarded<L> {
     }
 
     /// The job of the lowest queued ticket, which is out from then on, and an unchanging copy of
-    /// the present store, which has the variables of its block; nothing where no ticket is queued.
+    /// the present store, which has the variables of its block; nothing if no ticket is queued.
     pub fn take(&mut self) -> Result<Option<(Frozen, Job)>, NoMemory>
         ensures ticket { IfOk result (λ r.
             option_map (λ j. j.1.ticket) r ≡ first_queued self.old.desk.pending) }
@@ -230,7 +230,7 @@ impl<L: Ledger> Guarded<L> {
         }
     }
 
-    /// A ticket that is out is queued again, and the answer is whether it was out.
+    /// Queues a ticket again that is out, and returns whether it was out.
     pub fn hand_back(&mut self, ticket: u32) -> bool
         ensures was { result ≡ is_out ticket self.old.desk.pending }
         ensures desk { self.new.desk
@@ -312,8 +312,8 @@ impl<L: Ledger> Guarded<L> {
         Ok(())
     }
 
-    /// The same. A pass that differs does so from a legal history with as many events as all passes
-    /// have. Nothing changes.
+    /// Compares the passes of `count` clients with the history, as `agrees` does. A pass that differs does so from a legal
+    /// history with as many events as all passes have. Nothing changes.
     pub(crate) fn compare(&mut self, passes: &mut [Pass<L>], count: u32) -> Result<(), CloseError>
         requires { count ≡ L.parts }
         ensures done { OnOk result (MayClose self.old.desk.history count passes.old) }

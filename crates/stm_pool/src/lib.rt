@@ -1,20 +1,23 @@
 //! Running threads: a desk that many of them share.
 //!
+//! The modules, in the order in which one reads them:
+//!
+//! - `pass`: what a client carries: its number, its own accepted events, and its share of the count of all;
+//! - `errors`: why a desk isn't shown or closed;
+//! - `guarded`: the desk under its lock. A call is lent the desk and a pass, so its contract says all that it does;
+//! - `shared`: the lock, and how a desk opens with a pass for each client;
+//! - `calls`: the calls through the lock. Each says what it did to the caller's pass;
+//! - `close`: all passes are compared with the history, and the desk is given back;
+//! - `worker`: what a worker does: it takes a job, evaluates it without the lock, and delivers;
+//! - `storm`: clients and workers in threads of their own over one such desk, which is closed at the end. `client` does the tasks of a
+//!   section, `counting` counts what came of them, and `threads` starts the threads and joins them.
+//!
 //! `stm_jobs` evaluates many jobs by threads, and is named here, too: `evaluate_all`, `all` and `slot`.
 //!
-//! `Guarded` is the desk under its lock, and `Pass` what each client carries: its own accepted
-//! events, and its share of the count of all. A call on `Guarded` is lent both, so its contract
-//! says the whole of it. `SharedDesk` is the lock; through it a call says what it did to the pass
-//! alone, and `close` compares all passes with the history. `work` is what a worker does: it takes,
-//! evaluates without the lock, and delivers.
-//!
-//! A storm (`run_storm`) runs clients and workers in threads of their own over one such desk, and
-//! closes it.
-//!
-//! What a reader has to believe is what these answers say. `specs/Own` says what a pass knows of its
-//! client's events and when a history has them, `specs/Shown` what a view shows a client,
-//! `specs/Found` what store comes with a job that a worker finds, `specs/Worked` what a worker adds
-//! to its pass, and `specs/Storms` what a storm's counts say of the history.
+//! What a reader has to believe is in these modules of specs/: `Own` (what a pass knows of its client's events, and which of them a
+//! history has), `Lent` (what a call does that is lent the desk and a pass), `Shown` (what a view shows a client), `Found` (which store
+//! comes with a job that a worker finds), `Closing` (when a desk may be closed, and why it isn't), `Worked` (what a worker adds to its
+//! pass), and `Storms` (what a storm's counts say of the history).
 #![tactic(auto)]
 
 // The desk under its lock.

@@ -112,7 +112,7 @@ pub(crate) fn audit_passes<L: Ledger>(
     }
 }
 
-/// The same of a first pass and the others.
+/// Adds the shares of a first pass and of the others up, beside one that is given.
 #[cycle(audit)]
 fn audit_first<L: Ledger>(
     book: &mut Book<L>,

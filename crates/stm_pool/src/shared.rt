@@ -17,7 +17,7 @@ use stm_terms::NoMemory;
 /// A desk for many threads: one lock, under which each call is one call of `Guarded`. Contracts see
 /// how many passes it has.
 ///
-/// Nothing is known of the desk between two calls but what its type keeps. So a call tells what it
+/// Nothing is known of the desk between two calls but what its type keeps. So a call says what it
 /// did to the caller's pass, and `close` compares all passes with the history.
 #[derive(Drop)]
 pub struct SharedDesk<L: Ledger> {

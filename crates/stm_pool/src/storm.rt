@@ -21,7 +21,7 @@ use stm_script::Section;
 use stm_store::Table;
 use stm_terms::NoMemory;
 
-/// What the tasks of a client came to. A task counts under one of them, or, where an expected value
+/// What the tasks of a client came to. A task counts under one of them, or, if an expected value
 /// was there, under none.
 #[derive(Clone, Copy, PartialEq, Eq, Debug)]
 pub struct Counts {
@@ -56,7 +56,7 @@ fn closed<L: Ledger>(
     }
 }
 
-/// The end of a storm of `clients` clients, when its threads are joined. Where a thread gave nothing
+/// The end of a storm of `clients` clients, when its threads are joined. If a thread gave nothing
 /// back, memory ran out.
 fn end_of<L: Ledger>(
     alloc: Global,
@@ -108,9 +108,9 @@ fn storm_with<L: Ledger + Send + Sync, R: Threads + Wait + Sync>(
 /// queued; then closes the desk. `levels` is how deep the workers evaluate both branches of an
 /// `orElse` at once.
 ///
-/// A client finishes a ticket as soon as it is evaluated, and waits for that where it must. Section
-/// k is client k; the workers are the clients after them. Where memory runs out, or a thread can't
-/// be started, the desk is stopped, all threads are joined, and the answer is `NoMemory`.
+/// A client finishes a ticket as soon as it is evaluated, and waits for that if it must. Section
+/// k is client k; the workers are the clients after them. If memory runs out, or a thread can't
+/// be started, the desk is stopped, all threads are joined, and the result is `NoMemory`.
 pub fn run_storm<R: Threads + Wait + Sync>(
     rt: &R,
     alloc: Global,

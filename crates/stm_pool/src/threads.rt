@@ -15,7 +15,7 @@ use std::thread;
 use std::thread::{JoinHandle, Threads};
 use stm_script::Section;
 
-/// A gate that stands open.
+/// A gate that is always open.
 #[derive(Clone, Copy)]
 pub struct Open;
 
@@ -37,7 +37,7 @@ pub(crate) struct Errand<'a, 'b, L: Ledger, R> {
     pass: Pass<L>,
 }
 
-/// A pass, and what its client's tasks left no event of; nothing where memory ran out.
+/// A pass, and what its client's tasks left no event of; nothing if memory ran out.
 type ClientEnd<L> = (Pass<L>, Option<Extra>);
 
 /// A pass, and how its worker ended.

@@ -32,7 +32,7 @@ pub enum WorkEnd {
     NoMemory,
 }
 
-/// Evaluates what is queued until the desk is stopped. At a full history and where memory runs out
+/// Evaluates what is queued until the desk is stopped. If the history is full or memory runs out,
 /// its ticket is queued again and the desk stopped first. Both branches of an `orElse` run at once,
 /// in threads of their own, `levels` deep.
 pub fn work<L: Ledger, G: Gate<R>, R: Wait + Threads + Sync>(
