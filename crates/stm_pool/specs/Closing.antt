@@ -3,9 +3,10 @@ use Rattle.std.specs.Prelude.{◌≡◌, ◌≢◌, ◌⊎◌, ℕ, ◌<◌, tru
 use Rattle.stm_store.specs.Tables.{Declared}
 use Rattle.stm_events.specs.declared.event.Event.{Event}
 use Rattle.stm_events.specs.SlowDesk.{IsLegal}
+use Rattle.stm_pool.specs.declared.close.Report.{Report}
 use Rattle.stm_pool.specs.declared.errors.CloseError.{CloseError}
 use Rattle.stm_pool.specs.declared.errors.CloseError.TheVariants.{PassMissing, Differs}
-use Rattle.stm_pool.specs.Own.{Known, own_of, events_in_passes}
+use Rattle.stm_pool.specs.Own.{Known, own_of, are_below, events_in_passes}
 
 -- the client's pass, the first one if it has several
 abbrev pub pass_of : ℕ → List Known → Option Known
@@ -33,6 +34,16 @@ DiffersFrom history c passes = IsSomeAnd (pass_of c passes) (λ p. own_of c hist
 pub record MayClose (history : List Event) (n : ℕ) (passes : List Known) : Type 0 where
   pub all : HasAll n passes
   pub agree : (c : ℕ) → c < n → AgreesWith history c passes
+
+-- what a desk was when it was closed with these passes
+pub record HasClosed (n : ℕ) (passes : List Known) (r : Report) : Type 0 where
+  -- it has as many events as it says, and as many as the passes
+  pub events : r.events ≡ length r.desk.history
+  pub counted : r.events ≡ events_in_passes passes
+  -- all passes are there, and have their clients' events
+  pub all : MayClose r.desk.history n passes
+  -- no event is of another client
+  pub only : are_below n r.desk.history ≡ true
 
 -- all passes are there, and the client is the first whose pass differs from the history
 pub record FirstDiffers (history : List Event) (n : ℕ) (passes : List Known) (c : ℕ) : Type 0 where

@@ -1,8 +1,7 @@
 //! The end of a shared desk.
 
-ghost use Rattle.std.specs.Prelude.{◌≡◌, true, length, IfOk, IfErr};
-ghost use Rattle.stm_pool.specs.Own.{are_below, events_in_passes};
-ghost use Rattle.stm_pool.specs.Closing.{MayClose, IsCloseError};
+ghost use Rattle.std.specs.Prelude.{◌≡◌, IfOk, IfErr};
+ghost use Rattle.stm_pool.specs.Closing.{HasClosed, IsCloseError};
 
 use crate::errors::CloseError;
 use crate::guarded::Guarded;
@@ -26,10 +25,7 @@ impl<L: Ledger> SharedDesk<L> {
         self,
         passes: Vec<Pass<L>>,
     ) -> Result<Report, (SharedDesk<L>, Vec<Pass<L>>, CloseError)>
-        ensures events { IfOk result (λ r. r.events ≡ length r.desk.history) }
-        ensures counted { IfOk result (λ r. r.events ≡ events_in_passes passes.items) }
-        ensures all { IfOk result (λ r. MayClose r.desk.history self passes.items) }
-        ensures only { IfOk result (λ r. are_below self r.desk.history ≡ true) }
+        ensures closed { IfOk result (λ r. HasClosed self passes.items r) }
         ensures refused { IfErr result (λ e. IsCloseError e.2 self passes.items) }
         ensures back { IfErr result (λ e. (e.0 ≡ self) × (e.1 ≡ passes)) }
     {

@@ -9,11 +9,16 @@ use Rattle.stm_pool.proofs.shared.SharedDesk.close.Goals as goal
 pub returns-in-Err-clause-back : goal.returns-in-Err-clause-back
 returns-in-Err-clause-back g c = (search rules, refilled c.args.passes c.compare.new.passes (search rules))
 
-pub returns-clause-only : goal.returns-clause-only
-returns-clause-only g c =
+pub returns-clause-closed : goal.returns-clause-closed
+returns-clause-closed g c =
     let history = c.into_inner-guarded.result.desk.history in
     let passes = c.args.passes.items in
     let may : MayClose history c.self.inside.passes passes = search rules in
     let all : length history ≡ events_in_passes passes = search rules in
-    subst (λ (n : ℕ). are_below n c.compare.new.self.desk.history ≡ true) c.self.view_is
-    (subst (λ (d : DeskView). are_below c.self.inside.passes d.history ≡ true) (sym c.compare.ensures.desk) (only_theirs passes history c.self.inside.passes may all))
+    record {
+      events = search rules;
+      counted = search rules;
+      all = search rules;
+      only = subst (λ (n : ℕ). are_below n c.compare.new.self.desk.history ≡ true) c.self.view_is
+          (subst (λ (d : DeskView). are_below c.self.inside.passes d.history ≡ true) (sym c.compare.ensures.desk) (only_theirs passes history c.self.inside.passes may all));
+    }
