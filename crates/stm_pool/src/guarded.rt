@@ -1,19 +1,18 @@
 //! The desk under its lock: what each call does that is lent the desk and a pass.
 
-ghost use Rattle.std.specs.Prelude.{◌≡◌, ◌≢◌, ◌<◌, ◌⊎◌, false, Some, length, option_map, is_some, IsTrue, IfOk, OnOk, IfErr, OnErr, IfSome};
+ghost use Rattle.std.specs.Prelude.{◌≡◌, ◌≢◌, ◌<◌, ◌⊎◌, false, length, is_some, IsTrue, IfOk, OnOk, IfErr, OnErr};
 ghost use Rattle.stm_terms.specs.Names.{is_name_text};
 ghost use Rattle.stm_terms.specs.UnlessNoMemory.{RefusedAs};
-ghost use Rattle.stm_store.specs.Cells.{plains, Covers, applied_answer};
-ghost use Rattle.stm_eval.specs.EvaluatedFields.{message_ticket};
+ghost use Rattle.stm_store.specs.Cells.{applied_answer};
 ghost use Rattle.stm_events.specs.declared.event.What.TheVariants.{Submitted, Cancelled, Declared as DeclaredLate};
-ghost use Rattle.stm_machine.specs.JobsHandedOut.{block_at};
-ghost use Rattle.stm_machine.specs.Machine.{event, installation_of};
+ghost use Rattle.stm_machine.specs.Plans.{IsPlan};
 ghost use Rattle.stm_events.specs.Refusals.{without_message};
-ghost use Rattle.stm_queue.specs.Queue.{is_out, marked, first_queued, sent_out};
-ghost use Rattle.stm_desk.specs.DeskView.{state_of, with_event};
+ghost use Rattle.stm_queue.specs.Queue.{is_out, marked, first_queued};
+ghost use Rattle.stm_desk.specs.DeskView.{state_of};
 ghost use Rattle.stm_desk.specs.Events.{finish_of};
-ghost use Rattle.stm_desk.specs.Refusals.{submit_refusal, late_declare_refusal, cancel_refusal, finish_refusal, RefusesDelivery, requeued_if_overtaken};
-ghost use Rattle.stm_pool.specs.Own.{own_of, with_own, events_in_passes};
+ghost use Rattle.stm_desk.specs.Refusals.{submit_refusal, late_declare_refusal, cancel_refusal, finish_refusal, RefusesDelivery};
+ghost use Rattle.stm_pool.specs.Own.{own_of, events_in_passes};
+ghost use Rattle.stm_pool.specs.Lent.{JoinsBoth, DeliversAs, TakesJob};
 ghost use Rattle.stm_pool.specs.Shown.{IsShown, IsPresentView};
 ghost use Rattle.stm_pool.specs.Closing.{close_error, ClosesAs, MayClose, IsCloseError};
 
@@ -57,10 +56,9 @@ impl<L: Ledger> Guarded<L> {
     /// `Desk::submit`; the event joins the pass's list too. Memory for the list is taken first, so
     /// `NoMemory` can come before the desk's own refusals.
     pub fn submit(&mut self, pass: &mut Pass<L>, block: SharedBlock) -> Result<u32, SubmitError>
-        ensures desk { IfOk result (λ t. self.new.desk
-            ≡ with_event self.old.desk pass.old.client (Submitted t block)) }
-        ensures pass { IfOk result (λ t. pass.new
-            ≡ with_own pass.old (event pass.old.client (Submitted t block))) }
+        ensures accepted { IfOk result (λ t.
+            JoinsBoth self.old.desk self.new.desk pass.old pass.new (Submitted t block)) }
+        ensures ticket { IfOk result (λ t. t ≡ (state_of self.old.desk).next) }
         // Unless memory runs out first, it is refused as the desk's own call is.
         ensures refused { result ≢ Err SubmitError.NoMemory
             → RefusedAs SubmitError.NoMemory (submit_refusal self.old.desk block) result }
@@ -93,10 +91,8 @@ impl<L: Ledger> Guarded<L> {
         value: Value,
     ) -> Result<u32, LateDeclareError>
         requires name { IsTrue (is_name_text name.now) }
-        ensures desk { OnOk result (self.new.desk
-            ≡ with_event self.old.desk pass.old.client (DeclaredLate name.now kind value)) }
-        ensures pass { OnOk result (pass.new
-            ≡ with_own pass.old (event pass.old.client (DeclaredLate name.now kind value))) }
+        ensures accepted { OnOk result (JoinsBoth self.old.desk self.new.desk pass.old pass.new
+            (DeclaredLate name.now kind value)) }
         ensures number { IfOk result (λ i. i ≡ length (state_of self.old.desk).store) }
         // Unless memory runs out first, it is refused as the desk's own call is.
         ensures refused { result ≢ Err LateDeclareError.NoMemory
@@ -125,10 +121,8 @@ impl<L: Ledger> Guarded<L> {
     /// `Desk::cancel`; the event joins the pass's list too, and `NoMemory` can come before the
     /// desk's own refusals.
     pub fn cancel(&mut self, pass: &mut Pass<L>, ticket: u32) -> Result<(), CancelError>
-        ensures desk { OnOk result (self.new.desk
-            ≡ with_event self.old.desk pass.old.client (Cancelled ticket)) }
-        ensures pass { OnOk result (pass.new
-            ≡ with_own pass.old (event pass.old.client (Cancelled ticket))) }
+        ensures accepted { OnOk result
+            (JoinsBoth self.old.desk self.new.desk pass.old pass.new (Cancelled ticket)) }
         // Unless memory runs out first, it is refused as the desk's own call is.
         ensures refused { result ≢ Err CancelError.NoMemory
             → RefusedAs CancelError.NoMemory (cancel_refusal self.old.desk ticket) result }
@@ -149,11 +143,10 @@ impl<L: Ledger> Guarded<L> {
 
     /// `Desk::finish`; the event joins the pass's list too.
     pub fn finish(&mut self, pass: &mut Pass<L>, ticket: u32) -> Result<Finish, FinishError>
-        ensures desk { IfOk result (λ f. self.new.desk
-            ≡ with_event self.old.desk pass.old.client
-            (finish_of ticket f)) }
-        ensures pass { IfOk result (λ f. pass.new ≡ with_own pass.old (event pass.old.client
-            (finish_of ticket f))) }
+        ensures accepted { IfOk result (λ f.
+            JoinsBoth self.old.desk self.new.desk pass.old pass.new (finish_of ticket f)) }
+        ensures plan { IfOk result (λ f.
+            IsPlan (state_of self.old.desk) ticket f.verdict f.applied.first_new f.stale) }
         ensures applied { IfOk result (λ f.
             f.applied ≡ applied_answer (state_of self.old.desk).store f.verdict) }
         ensures refused { RefusedAs FinishError.NoMemory (finish_refusal self.old.desk ticket) result }
@@ -174,18 +167,10 @@ impl<L: Ledger> Guarded<L> {
         pass: &mut Pass<L>,
         message: Evaluated,
     ) -> Result<(), (Evaluated, DeliverError)>
-        ensures desk { OnOk result (self.new.desk
-            ≡ with_event self.old.desk pass.old.client
-            (installation_of message)) }
-        ensures pass { OnOk result (pass.new ≡ with_own pass.old (event pass.old.client
-            (installation_of message))) }
+        ensures delivered { DeliversAs self.old.desk self.new.desk pass.old pass.new message result }
         // Unless memory runs out first, it is refused as the desk's own call is.
         ensures refused { without_message result ≢ Err DeliverError.NoMemory
             → RefusesDelivery (without_message result) self.old.desk message }
-        ensures back { IfErr result (λ e. e.0 ≡ message) }
-        ensures left { IfErr result (λ e. self.new.desk
-            ≡ requeued_if_overtaken e.1 (message_ticket message) self.old.desk) }
-        ensures unchanged { OnErr result (pass.new ≡ pass.old) }
         ensures same { self.new.stopped ≡ self.old.stopped }
     {
         let Guarded { desk, book, .. } = self;
@@ -210,16 +195,7 @@ impl<L: Ledger> Guarded<L> {
     /// The job of the lowest queued ticket, which is out from then on, and an unchanging copy of
     /// the present store, which has the variables of its block; nothing if no ticket is queued.
     pub fn take(&mut self) -> Result<Option<(Frozen, Job)>, NoMemory>
-        ensures ticket { IfOk result (λ r.
-            option_map (λ j. j.1.ticket) r ≡ first_queued self.old.desk.pending) }
-        ensures block { IfOk result (λ r. IfSome r (λ j.
-            block_at (state_of self.old.desk) j.1.ticket ≡ Some j.1.block)) }
-        ensures store { IfOk result (λ r. IfSome r (λ j. j.0 ≡ plains (state_of self.old.desk).store)) }
-        ensures covered { IfOk result (λ r. IfSome r (λ j. Covers j.0 j.1.block.uses)) }
-        ensures out { OnOk result (self.new.desk
-            ≡ record self.old.desk {
-              pending = sent_out (first_queued self.old.desk.pending) self.old.desk.pending;
-            }) }
+        ensures taken { IfOk result (λ r. TakesJob self.old.desk self.new.desk r) }
         ensures unchanged { OnErr result (self.new.desk ≡ self.old.desk) }
         ensures same { self.new.stopped ≡ self.old.stopped }
     {
