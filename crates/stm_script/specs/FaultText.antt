@@ -12,7 +12,7 @@ use Rattle.stm_script.specs.declared.script_fault.Reason.{Reason}
 use Rattle.stm_script.specs.declared.script_fault.Reason.TheVariants.{LineTooLong, NotAscii, Command, Argument, Late, NoClient, ClientsFull, ScriptTooLong, Refused}
 use Rattle.stm_script.specs.declared.script_fault.ScriptFault.{ScriptFault}
 
--- a fault of the grammar; the console prints the same of it
+-- the name of an error of the grammar, as the console prints it, too
 abbrev pub parse_fault_name : ParseFault → List ℕ
 parse_fault_name (parse.BadByte n) = codes "BadByte"
 parse_fault_name (parse.BadNumber n) = codes "BadNumber"
@@ -101,11 +101,11 @@ reason_place (Refused refusal) = refusal_place refusal
 abbrev pub script_fault_text : ScriptFault → List ℕ
 script_fault_text f = codes "stmdesk: script line " ++ decimal f.line
 
--- the same with a name, and a place if there is one
+-- which line is faulty, with the name of the reason, and its place if there is one
 abbrev pub reason_line : ScriptFault → List ℕ → Option ℕ → List ℕ
 reason_line f name (Some place) = script_fault_text f ++ codes ": " ++ name ++ 32 ∷ decimal place ++ 10 ∷ []
 reason_line f name None = script_fault_text f ++ codes ": " ++ name ++ 10 ∷ []
 
--- what is written of a faulty line: its number, and the same again with the reason
+-- what is written of a faulty line: a line with its number, and one that has the reason as well
 abbrev pub script_fault_lines : ScriptFault → List ℕ
 script_fault_lines f = script_fault_text f ++ 10 ∷ reason_line f (reason_name f.reason) (reason_place f.reason)

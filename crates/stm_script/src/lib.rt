@@ -1,11 +1,17 @@
 //! Scripts of clients: their declarations, sections and tasks, and how they are read.
 //!
-//! `section` has what a client does, task by task. `storm_word` has the words of the lines, `script_fault` why a line is faulty,
-//! `script_line` says what a line is, `begun_section` and `script_so_far` take it, `variables` has those that are declared, and
-//! `script_reader` reads a script, or says by `reading_fault` why it wasn't read.
+//! The modules, in the order in which one reads them:
+//!
+//! - `script_reader` reads a script to the end of the input; `reading_fault` says why it wasn't read, and `script_fault` why a line is
+//!   faulty, with the text of that;
+//! - `section`: what a client does, task by task;
+//! - `script_so_far`: a script that is being read, which takes it line by line; `begun_section` is the section under way, and `variables`
+//!   those that are declared;
+//! - `storm_word` has the words of the lines, and `script_line` says what the argument of a line is.
 //!
 //! What a reader has to believe is in these modules of specs/: `StormScript` has what a script says, or its first faulty line
-//! and why it is faulty, `FaultText` what is written of that, and `Limits` how many sections there may be.
+//! and why it is faulty, `ScriptReading` what the calls return by that, `FaultText` what is written of a faulty line, and `Limits` how
+//! many sections there may be.
 #![tactic(auto)]
 
 mod begun_section;

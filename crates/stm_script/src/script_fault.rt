@@ -190,7 +190,8 @@ fn write_reason<W: Write>(
     }
 }
 
-/// Writes which line of a script is faulty, and the same again with why. After an error a part of that may be written.
+/// Writes two lines: which line of a script is faulty, and that again with the reason and its place. After an error a part of the lines may
+/// be written.
 pub fn write_script_fault<W: Write>(fault: ScriptFault, writer: &mut W) -> io::Result<()>
     ensures { OnOk result (Appends (W.contents writer.old) (W.contents writer.new)
         (script_fault_lines fault)) }
