@@ -1,3 +1,4 @@
 pub mod FaultLines
 pub mod FewSections
+pub mod ReadResults
 pub mod ReadScript

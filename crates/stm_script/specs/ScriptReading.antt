@@ -1,5 +1,5 @@
 -- The code's script under way, and what its calls return, by the definitions of scripts.
-use Rattle.std.specs.Prelude.{◌≡◌, ◌≤◌, ℕ, ◌+◌, nat_lt, List, [], ◌∷◌, ◌++◌, Option, Some, None, Result, Ok, Err, length, map, if◌then◌else◌, ⊤}
+use Rattle.std.specs.Prelude.{◌≡◌, ◌≢◌, ◌≤◌, ℕ, ◌+◌, nat_lt, List, [], ◌∷◌, ◌++◌, Option, Some, None, Result, Ok, Err, IfSome, length, map, if◌then◌else◌, vec_len, ⊤}
 use Rattle.stm_terms.specs.UnlessNoMemory.{AnswersUnless}
 use Rattle.stm_source.specs.declared.refusal.Refusal.{Refusal}
 use Rattle.stm_source.specs.OutOfMemory.{IsOutOfMemory}
@@ -9,6 +9,9 @@ use Rattle.stm_script.specs.declared.section.Task.{Task}
 use Rattle.stm_script.specs.Limits.{max_sections}
 use Rattle.stm_script.specs.declared.script_line.LineFault.{LineFault}
 use Rattle.stm_script.specs.declared.script_line.LineFault.TheVariants.{Faulty, NoMemory}
+use Rattle.stm_lines.specs.declared.run_fault.RunFault.TheVariants as run
+use Rattle.stm_script.specs.declared.reading_fault.ReadingFault.{ReadingFault}
+use Rattle.stm_script.specs.declared.reading_fault.ReadingFault.TheVariants as reading
 use Rattle.stm_script.specs.declared.script_fault.Reason.{Reason}
 use Rattle.stm_script.specs.declared.script_fault.Reason.TheVariants.{Refused, ScriptTooLong}
 use Rattle.stm_script.specs.declared.script_fault.ScriptFault.{ScriptFault}
@@ -57,6 +60,19 @@ reading_in table ended b = record { table = table; ended = ended; begun = Some b
 -- a script as the definitions have it
 abbrev pub script_of : Script → StormScript
 script_of s = record { table = s.table; sections = map tasks_of s.sections.items }
+
+-- What reading a script returns, of an input that may be known: the script that the input is; the input's first faulty line and why it is
+-- faulty; or that the reader failed or memory ran out, since nothing is written.
+abbrev pub ReadsScript : Option (List ℕ) → Result Script ReadingFault → Type 0
+ReadsScript input (Ok script) = IfSome input (λ text. storm_script text ≡ Ok (script_of script)) × (vec_len script.sections ≤ max_sections)
+ReadsScript input (Err (reading.Script fault)) = IfSome input (λ text. storm_script text ≡ Err fault)
+ReadsScript input (Err (reading.Run fault)) = fault ≢ run.Write
+
+-- What ending a script under way returns, of which this line is missing: the script; why there is none; or that memory ran out.
+abbrev pub EndsScript : PartialScript → ℕ → Result Script ReadingFault → Type 0
+EndsScript r next (Ok script) = (script_result (Ok r) next ≡ Ok (script_of script)) × (vec_len script.sections ≤ max_sections)
+EndsScript r next (Err (reading.Script fault)) = script_result (Ok r) next ≡ Err fault
+EndsScript r next (Err (reading.Run fault)) = fault ≡ run.NoMemory
 
 -- no more sections have begun than a script may have
 abbrev pub HasFewSections : PartialScript → Type 0
