@@ -1,8 +1,13 @@
 -- A file that takes the place of another: what a call that puts it there leaves, by its result.
-use Rattle.std.specs.Prelude.{◌≡◌, ◌⊎◌, ⊤, List, ℕ, IsTrue, Result, Ok, Err}
+use Rattle.std.specs.Prelude.{◌≡◌, ◌⊎◌, List, [], ℕ, IsTrue, Some, None, Result, Ok, Err}
 use Rattle.stm_journal.specs.Device.{Elapses}
-use Rattle.stm_journal.specs.Disk.{Disk, OnDisk}
+use Rattle.stm_journal.specs.Disk.{Disk, OnDisk, Shows, IsOneOf, CrashLeaves}
+use Rattle.stm_journal.specs.Journal.{IsAtRest}
+use Rattle.stm_journal.specs.NewFile.{written_bytes}
+use Rattle.stm_journal.specs.declared.device.Device.{Ghosts}
 use Rattle.stm_journal.specs.declared.error.JournalError.{JournalError}
+use Rattle.stm_journal.specs.declared.journal.Journal.{Journal}
+use Rattle.stm_journal.specs.declared.new_file.NewFile.{NewFile}
 use Rattle.stm_journal.specs.declared.replace.ReplaceError.{ReplaceError}
 use Rattle.stm_journal.specs.declared.replace.ReplaceError.TheVariants.{Refused, Unfinished}
 
@@ -53,6 +58,36 @@ LeavesByResult disk old other new (Err (Unfinished e)) = IsOldOrOther disk old o
 abbrev pub PutsOrKeeps : {D T : Type 0} → Disk D → D → D → D → Result T ReplaceError → Type 0
 PutsOrKeeps disk old other new result = IsTrue disk.is_honest → LeavesByResult disk old other new result
 
+-- ---- a journal whose file another one replaces
+
+-- The journal goes on in the other file.
+pub record GoesOnIn {D : Type 0} (disk : Disk D) (other : D) (new : Journal D) : Type 0 where
+  -- reads return the other file
+  pub seen : Shows disk new.device (disk.seen other)
+  -- more can be added to it
+  pub at_rest : IsAtRest disk new
+
+-- The journal stays in the file that it has.
+pub record StaysIn {D : Type 0} (disk : Disk D) (old new : Journal D) : Type 0 where
+  -- reads return the same file
+  pub seen : Shows disk new.device (disk.seen old.device)
+  -- more can be added to it, if it could be before
+  pub at_rest : IsAtRest disk old → IsAtRest disk new
+  -- a crash at any moment of the call left what it might have left before
+  pub any_moment : CrashLeaves disk old.device new.device (disk.may_leave old.device)
+
+-- what the journal has after the call, by its result
+abbrev pub ReplacesAs : {D : Type 0} → Disk D → Journal D → D → Journal D → Result (Unit {0}) ReplaceError → Type 0
+ReplacesAs disk old other new (Ok done) = GoesOnIn disk other new
+ReplacesAs disk old other new (Err (Refused e)) = StaysIn disk old new
+-- it is the old file or the other one
+ReplacesAs disk old other new (Err (Unfinished e)) = IsOneOf disk old.device other new.device
+
+-- A new file has no bytes yet, and no write of it has failed.
+pub record IsNewFile {D : Type 0} {device : Ghosts D} (file : NewFile D device) : Type 0 where
+  pub empty : IsTrue device.disk.is_honest → written_bytes device.disk file.device file.len file.pending.items ≡ Some []
+  pub fault : file.fault ≡ None
+
 -- ---- errors
 
 -- the error of the journal that it has
@@ -64,9 +99,3 @@ error_within (Unfinished e) = e
 abbrev pub journal_result : {T : Type 0} → Result T ReplaceError → Result T JournalError
 journal_result (Ok x) = Ok x
 journal_result (Err e) = Err (error_within e)
-
--- after a refusal
-abbrev pub OnRefused : {T : Type 0} → Result T ReplaceError → Type 0 → Type 0
-OnRefused (Ok x) P = ⊤
-OnRefused (Err (Refused e)) P = P
-OnRefused (Err (Unfinished e)) P = ⊤
