@@ -3,13 +3,14 @@ use Rattle.std.proofs.Common.{◌≡◌, ◌⊎◌, inl, inr, ⊎_elim, ℕ, ◌
 use Rattle.stm_events.specs.declared.event.Event.{Event}
 use Rattle.stm_history_text.specs.HistoryText.{history_text}
 use Rattle.stm_history_text.specs.Starts.{Start}
+use Rattle.stm_journal.specs.declared.journal.Journal.{Journal}
 use Rattle.stm_journal.specs.declared.replace.ReplaceError.{ReplaceError}
 use Rattle.stm_journal.specs.declared.replace.ReplaceError.TheVariants.{Refused, Unfinished}
 use Rattle.stm_journal.specs.declared.sync_mode.SyncMode.{SyncMode}
 use Rattle.stm_journal.specs.declared.sync_mode.SyncMode.TheVariants.{Full, Sector, Append, Never}
-use Rattle.stm_journal.specs.Disk.{CrashLeaves, Disk, FailsOnlyByDisk, IsOneOf, LeavesOnly, Shows}
+use Rattle.stm_journal.specs.Disk.{CrashLeaves, Disk, FailsOnlyByDisk, LeavesOnly, Shows}
 use Rattle.stm_journal.specs.Journal.{IsAtRest}
-use Rattle.stm_journal.specs.Replacing.{OnRefused, error_within}
+use Rattle.stm_journal.specs.Replacing.{ReplacesAs, error_within}
 use Rattle.stm_journal.specs.Text.{IsWhole}
 use Rattle.stm_journal.proofs.Moments.{joined, weaker}
 use Rattle.stm_journal.proofs.Wholes.{recovered_whole}
@@ -35,25 +36,25 @@ left_before disk old mid new counts first second =
     (λ c left. first.each c (counts (disk.moment old) c first.later left))
 
 -- no new file has taken the place of the old one, or it isn't known whether it has
-pub not_replaced : {D : Type 0} (disk : Disk D) (old new : HistoryFile D) (start : Start) (events : List Event) (mid other : D) (e : ReplaceError)
-    → new.begun ≡ old.begun → new.format ≡ old.format → ((t : ℕ) (c : List ℕ) → t ≤ disk.moment mid → disk.may_leave mid c → disk.left_since mid t c)
-    → Shows disk mid (disk.seen old.journal.device) → CrashLeaves disk old.journal.device mid (disk.may_leave old.journal.device)
-    → Shows disk other (history_text start events) → IsOneOf disk mid other new.journal.device
-    → OnRefused {T = Unit {0}} (Err e) (Shows disk new.journal.device (disk.seen mid)) → OnRefused {T = Unit {0}} (Err e) (IsAtRest disk new.journal)
-    → OnRefused {T = Unit {0}} (Err e) (CrashLeaves disk mid new.journal.device (disk.may_leave mid))
-    → FailsOnlyByDisk {T = Unit {0}} disk mid new.journal.device (Err (error_within e)) → BeginsAs disk old new start events (Err e)
-not_replaced disk old new start events mid other (Refused e) begun format counts same first text either seen rest second fault =
-    let same_bytes : Shows disk new.journal.device (disk.seen old.journal.device) = λ honest. seen honest ∙ same honest in
+pub not_replaced : {D : Type 0} (disk : Disk D) (old new : HistoryFile D) (start : Start) (events : List Event) (mid : Journal D) (other : D) (e : ReplaceError)
+    → new.begun ≡ old.begun → new.format ≡ old.format
+    → ((t : ℕ) (c : List ℕ) → t ≤ disk.moment mid.device → disk.may_leave mid.device c → disk.left_since mid.device t c)
+    → Shows disk mid.device (disk.seen old.journal.device) → IsAtRest disk mid
+    → CrashLeaves disk old.journal.device mid.device (disk.may_leave old.journal.device)
+    → Shows disk other (history_text start events) → ReplacesAs disk mid other new.journal (Err e)
+    → FailsOnlyByDisk {T = Unit {0}} disk mid.device new.journal.device (Err (error_within e)) → BeginsAs disk old new start events (Err e)
+not_replaced disk old new start events mid other (Refused e) begun format counts same rest first text is fault =
+    let same_bytes : Shows disk new.journal.device (disk.seen old.journal.device) = λ honest. is.seen honest ∙ same honest in
     record {
       seen = same_bytes;
-      kept = still_kept disk old new begun format same_bytes rest;
+      kept = still_kept disk old new begun format same_bytes (is.at_rest rest);
       begun = begun;
       format = format;
-      any_moment = λ honest. left_before disk old.journal.device mid new.journal.device counts (first honest) (second honest);
+      any_moment = λ honest. left_before disk old.journal.device mid.device new.journal.device counts (first honest) (is.any_moment honest);
     }
-not_replaced disk old new start events mid other (Unfinished e) begun format counts same first text either seen rest second fault =
+not_replaced disk old new start events mid other (Unfinished e) begun format counts same rest first text is fault =
     record {
-      seen = λ honest. ⊎_elim (λ is. inl (is ∙ same honest)) (λ is. inr (is ∙ text honest)) (either honest);
+      seen = λ honest. ⊎_elim (λ seen. inl (seen ∙ same honest)) (λ seen. inr (seen ∙ text honest)) (is honest);
       long = λ honest long. absurd (⊎_elim (fault honest).cause.too_long (fault honest).cause.full long);
       begun = begun;
       format = format;

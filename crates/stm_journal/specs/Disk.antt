@@ -115,7 +115,8 @@ FillsWithZeros disk old new at bytes =
     IsTrue disk.is_honest → IsTrue disk.fills_with_zeros → at ≡ length (disk.seen old) → Only (disk.seen old) (disk.may_leave old)
     → (c : List ℕ) → disk.may_leave new c → TornAppend bytes (disk.seen old) c
 
--- The same on each device, if they are in the sector in which the file ends: after the end of a file the rest of its last sector is zeros.
+-- Of such bytes a crash leaves some, or zeros in their place, on each device, if they are in the sector in which the file ends: after the end
+-- of a file the rest of its last sector is zeros.
 abbrev pub FillsSector : {D : Type 0} → Disk D → D → D → ℕ → List ℕ → Type 0
 FillsSector disk old new at bytes =
     IsTrue disk.is_honest → IsInLastSector at (length bytes) → at ≡ length (disk.seen old) → Only (disk.seen old) (disk.may_leave old)
@@ -149,7 +150,7 @@ FailsOnlyIf disk old new own result = IsTrue disk.is_honest → FaultsBetween di
 abbrev pub FailsOnlyByDisk : {D T : Type 0} → Disk D → D → D → Result T JournalError → Type 0
 FailsOnlyByDisk disk old new result = FailsOnlyIf disk old new no_own result
 
--- The same for a call that changes nothing: of the disk's errors it has only those of reads.
+-- A call that changes nothing fails only if a read may fail, if memory ran out, or as these say: of the disk's errors it has only those of reads.
 abbrev pub ReadsFailOnlyIf : {D T : Type 0} → Disk D → D → Own → Result T JournalError → Type 0
 ReadsFailOnlyIf disk d own result = IsTrue disk.is_honest → HasReadCause (disk.reads_fail d) own result
 
@@ -160,6 +161,6 @@ FailsOnlyByReads disk d result = ReadsFailOnlyIf disk d no_own result
 abbrev pub MayFail : {D : Type 0} → Disk D → Type 0
 MayFail {D} disk = ∥ ((d : D) × (e : D) × (disk.faults d < disk.faults e)) ∥₁
 
--- The same for a call that loses the device that failed, so that its faults have no name.
+-- A call that loses the device that failed, so that its faults have no name, fails only because of some device, if memory ran out, or as these say.
 abbrev pub FailsOnlyIfAny : {D T : Type 0} → Disk D → Own → Result T JournalError → Type 0
 FailsOnlyIfAny disk own result = IsTrue disk.is_honest → HasCause (MayFail disk) own result

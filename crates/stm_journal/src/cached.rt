@@ -3,7 +3,7 @@
 //! It shows that what `Device` says of a sync that fails can be met, and is what systems do: the cache keeps what didn't come to the
 //! disk, reads go on returning it, and no later sync writes it.
 
-ghost use Rattle.std.specs.Prelude.{◌≡◌, ◌∷◌, ◌++◌, [], OnOk, OnErr, IfOk};
+ghost use Rattle.std.specs.Prelude.{◌≡◌, ◌∷◌, ◌++◌, [], OnOk, OnErr};
 
 use crate::device::Device;
 use crate::error::JournalError;

@@ -237,7 +237,7 @@ fn rename(from: &NamedFile, to: &NamedFile) -> Result<(), Obstacle> {
     Ok(system::rename(to.rt, from_path, to_path)?)
 }
 
-/// The same, and whether nothing has changed if it fails.
+/// Puts one file in the place of another, both open; an error says as well whether nothing has changed.
 fn try_rename(from: &NamedFile, to: &NamedFile) -> Result<(), (Obstacle, bool)> {
     let (from_path, to_path) = match paths_of(from, to) {
         Ok(paths) => paths,

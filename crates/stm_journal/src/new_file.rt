@@ -3,8 +3,8 @@
 ghost use Rattle.std.specs.Prelude.{◌≡◌, ◌≢◌, ◌≤◌, ◌<◌, ◌+◌, ◌^◌, [], IsTrue, length, Option, Some, None, IfOk, IfErr, IfSome, OnOk, OnErr, IsErrOf};
 ghost use Rattle.std.specs.Io.{WritesAtMost};
 ghost use Rattle.std.specs.Io.KnownBytes.{Keeps, WriteAppends};
-ghost use Rattle.stm_journal.specs.Disk.{Shows, HasLength, Reaches, IsOnDisk, IsSettled, MayFail, FailsOnlyIfAny};
-ghost use Rattle.stm_journal.specs.NewFile.{written_bytes};
+ghost use Rattle.stm_journal.specs.Disk.{Shows, Reaches, IsSettled, MayFail, FailsOnlyIfAny};
+ghost use Rattle.stm_journal.specs.NewFile.{written_bytes, IsFinished};
 ghost use Rattle.stm_journal.specs.declared.error.JournalError.TheVariants.{Failed, NoSpace, Full, TooLong, TornTooLong};
 
 use crate::device::Device;
@@ -122,11 +122,8 @@ impl<D: Device> NewFile<D> {
     pub fn finish(mut self) -> Result<(D, usize), JournalError>
     where
         D: Drop,
-        // The file is exactly what was written.
-        ensures text { IsTrue D.disk.is_honest → IfOk result (λ r.
-            written_bytes D.disk self.device self.len self.pending.items ≡ Some (D.disk.seen r.0)) }
-        ensures len { IfOk result (λ r. HasLength D.disk r.0 r.1) }
-        ensures durable { IfOk result (λ r. IsOnDisk D.disk r.0) }
+        ensures finished { IfOk result (λ r. IsFinished D.disk
+            (written_bytes D.disk self.device self.len self.pending.items) r.0 r.1) }
         // The first error of a write is kept for this call.
         ensures first { IfSome self.fault (λ e. IsErrOf result e) }
         ensures fault { FailsOnlyIfAny D.disk (record {

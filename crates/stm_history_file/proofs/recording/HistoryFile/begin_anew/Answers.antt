@@ -11,8 +11,8 @@ replace-requires-clause-lines g c honest =
 
 pub returns-in-Err-replace-clause-begins : goal.returns-in-Err-replace-clause-begins
 returns-in-Err-replace-clause-begins g c =
-    let mid = c.new_file.new.self.device in
+    let mid = c.new_file.new.self in
     let first = c.new_file.ensures in
     let is = c.in-Err-replace.ensures in
-    not_replaced g.D.Device.disk _ _ _ _ mid c.in-Ok-write_new.new.0 c.in-Err-replace.error refl refl (g.met.D.Device.lawful.counts_now mid)
-    first.seen first.any_moment c.in-Ok-write_new.ensures.text is.left is.refused (is.still_at_rest first.at_rest) is.refused_moment is.fault
+    not_replaced g.D.Device.disk _ _ _ _ mid c.in-Ok-write_new.new.0 c.in-Err-replace.error refl refl (g.met.D.Device.lawful.counts_now mid.device)
+    first.seen first.at_rest first.any_moment c.in-Ok-write_new.ensures.text is.replaced is.fault
