@@ -44,12 +44,12 @@ IsRunning (AtBlocks keep format waiting c) = ⊥
 IsRunning (Running format table c r) = Unit {0}
 
 -- the lines are those of events, which go by the present rule, and they are kept
-abbrev pub IsLoaded : Stage → Type 0
-IsLoaded (Before keep) = ⊥
-IsLoaded (Declaring keep format vars table) = ⊥
-IsLoaded (AtCells keep h names cells) = ⊥
-IsLoaded (AtBlocks keep format waiting c) = ⊥
-IsLoaded (Running format table c r) = IsLatest format c × (is_some r.kept ≡ true)
+abbrev pub KeepsEvents : Stage → Type 0
+KeepsEvents (Before keep) = ⊥
+KeepsEvents (Declaring keep format vars table) = ⊥
+KeepsEvents (AtCells keep h names cells) = ⊥
+KeepsEvents (AtBlocks keep format waiting c) = ⊥
+KeepsEvents (Running format table c r) = IsLatest format c × (is_some r.kept ≡ true)
 
 -- the line leads from this progress on to that of the stage
 abbrev pub LeadsToStage : CheckerState → List ℕ → Stage → Type 0

@@ -1,14 +1,12 @@
 //! Whole files, read to go on from.
 
-ghost use Rattle.std.specs.Prelude.{◌≡◌, ◌≢◌, [], true, ℕ, List, None, OnOk, IfOk, IfErr, IfSome, is_some};
-ghost use Rattle.stm_events.specs.Laws.{SubmittedAreWellTyped};
+ghost use Rattle.std.specs.Prelude.{◌≡◌, ◌≢◌, [], true, ℕ, List, None, OnOk, IfErr, IfSome, is_some};
 ghost use Rattle.stm_events.specs.declared.event.Event.{Event as AnyEvent};
-ghost use Rattle.stm_events.specs.States.{IsLegalFrom};
 ghost use Rattle.stm_event_lines.specs.Lines.{declaring_format, latest_format};
-ghost use Rattle.stm_machine.specs.Checkpoints.{MayStart, start_of};
-ghost use Rattle.stm_history.specs.Loading.{HasText, IsWholeHistory, ReportsLoadFault, loaded_start};
-ghost use Rattle.stm_history_text.specs.Starts.{BlocksAreOfText, IsLatest};
-ghost use Rattle.stm_history.specs.Stages.{keeps, Reached, IsLoaded};
+ghost use Rattle.stm_machine.specs.Checkpoints.{start_of};
+ghost use Rattle.stm_history.specs.Loading.{IsWholeHistory, LoadsAs, ReportsLoadFault, loaded_start};
+ghost use Rattle.stm_history_text.specs.Starts.{IsLatest};
+ghost use Rattle.stm_history.specs.Stages.{keeps, Reached, KeepsEvents};
 ghost use Rattle.stm_events.specs.SlowDesk.{state_from};
 ghost use Rattle.stm_machine.specs.Machine.{IsAt};
 
@@ -121,10 +119,10 @@ fn is_latest(format: u32, checkpoint: &Option<Checkpoint>) -> Result<(), LoadFau
 }
 
 impl Checker {
-    /// Judges, where the bytes end, whether they are a history to go on from.
+    /// Judges, when the bytes end, whether they are a history to go on from.
     fn may_load(&self) -> Result<(), LoadFault>
         requires { (taken : List ℕ) × Reached self.now.stage self.now.whole self.now.line.items taken }
-        ensures ok { OnOk result (keeps self.now.stage ≡ true → IsLoaded self.now.stage) }
+        ensures ok { OnOk result (keeps self.now.stage ≡ true → KeepsEvents self.now.stage) }
         ensures line { OnOk result (self.now.line.items ≡ []) }
         ensures fault { IfErr result (λ e. (taken : List ℕ)
             → Reached self.now.stage self.now.whole self.now.line.items taken
@@ -150,7 +148,7 @@ impl Checker {
     /// The history that was read.
     fn into_loaded(self) -> Loaded
         requires reached { (taken : List ℕ) × Reached self.stage self.whole self.line.items taken }
-        requires stage { IsLoaded self.stage }
+        requires stage { KeepsEvents self.stage }
         requires line { self.line.items ≡ [] }
         ensures history { (taken : List ℕ) → Reached self.stage self.whole self.line.items taken
             → IsWholeHistory (loaded_start result) taken result.events.items }
@@ -176,7 +174,7 @@ impl Checker {
 fn load_rest<R: Read>(checker: &mut Checker, reader: &mut R) -> Result<(), LoadFault>
     requires reached { Reached checker.old.stage checker.old.whole checker.old.line.items [] }
     requires keeps { keeps checker.old.stage ≡ true }
-    ensures stage { OnOk result (IsLoaded checker.new.stage) }
+    ensures stage { OnOk result (KeepsEvents checker.new.stage) }
     ensures line { OnOk result (checker.new.line.items ≡ []) }
     ensures done { OnOk result ((taken : List ℕ)
         × IfSome (R.remaining reader.old) (λ bytes. bytes ≡ taken)
@@ -193,23 +191,8 @@ fn load_rest<R: Read>(checker: &mut Checker, reader: &mut R) -> Result<(), LoadF
 /// Reads the text of a legal history of format 3, 4 or 5 to its end, line by line, and keeps what it read. It judges as
 /// `check_history_with` does, and evaluates each installed verdict once. The names of variables are looked up under the seed.
 pub fn load_history<R: Read>(alloc: Global, seed: Seed, reader: &mut R) -> Result<Loaded, LoadFault>
-    // The bytes are the text of the history.
-    ensures ok { IfOk result (λ h. IfSome (R.remaining reader.old) (λ bytes.
-        IsWholeHistory (loaded_start h) bytes h.events.items)) }
-    // It may begin where it does, and is legal from there, whatever the reader was; and the machine is at the state that it leads to.
-    ensures start { IfOk result (λ h. MayStart h.table h.checkpoint) }
-    ensures legal { IfOk result (λ h. IsLegalFrom (start_of h.table h.checkpoint) h.events.items) }
-    ensures at { IfOk result (λ h. IsAt h.machine
-        (state_from (start_of h.table h.checkpoint) h.events.items)) }
-    ensures text { IfOk result (λ h. HasText (loaded_start h) h.events.items) }
-    // Its format goes by the present rule: it is 3 or 5 without a checkpoint.
-    ensures latest { IfOk result (λ h. IsLatest h.format h.checkpoint) }
-    // Each block that is submitted in it is well typed, and each waiting block of the checkpoint is that of its text.
-    ensures typed { IfOk result (λ h. SubmittedAreWellTyped h.events.items) }
-    ensures blocks { IfOk result (λ h. IfSome h.checkpoint BlocksAreOfText) }
-    // Otherwise the first error of the bytes is reported, or their format.
-    ensures fault { IfErr result (λ e.
-        IfSome (R.remaining reader.old) (λ bytes. ReportsLoadFault e bytes)) }
+    // What was loaded of the bytes that the reader had left, or why nothing was.
+    ensures { LoadsAs (R.remaining reader.old) result }
 {
     let mut checker = Checker::new(alloc, seed, true);
     match load_rest(&mut checker, reader) {

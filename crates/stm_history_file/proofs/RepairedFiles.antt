@@ -22,7 +22,7 @@ use Rattle.stm_journal.specs.Device.{HasCause}
 use Rattle.stm_journal.specs.Disk.{Disk}
 use Rattle.stm_journal.specs.Journal.{AtRest, most_batch}
 use Rattle.stm_journal.specs.Text.{dropped_count}
-use Rattle.stm_history_file.specs.Durable.{LoadedKept, LoadsFront, file_text, HasOpenCause, IsForeign, IsFormatFor, IsFormatOf, MayNotOpen}
+use Rattle.stm_history_file.specs.Durable.{LoadedKept, LoadsFront, file_text, HasOpenCause, IsForeign, IsFormatFor, IsFormatOf, IsNeverOpened}
 use Rattle.stm_history_file.specs.declared.resuming.OpenFault.TheVariants.{Journal}
 use Rattle.stm_history_file.specs.declared.recording.HistoryFile.{HistoryFile}
 
@@ -85,13 +85,13 @@ format_of_loaded format (Some h) none some is = (some h refl, is)
 -- ---- what may be opened
 -- a file that was repaired is no other file, and no more was dropped than a batch can have
 pub is_repaired : (file : List ℕ) (dropped : ℕ) (same : Type 0) (x : Unit {0}) → (IsForeign file → ⊥) → dropped ≡ dropped_count file
-    → (most_batch < dropped → IsErrOf {E = JournalError} (Ok x) TornTooLong × same) → MayNotOpen file → ⊥
+    → (most_batch < dropped → IsErrOf {E = JournalError} (Ok x) TornTooLong × same) → IsNeverOpened file → ⊥
 is_repaired file dropped same x own is refused (inl foreign) = own foreign
 is_repaired file dropped same x own is refused (inr more) = cc ((refused (subst (λ (n : ℕ). most_batch < n) (sym is) more)).0)
 
 -- one that wasn't is as it was, if more would have been dropped
 pub is_unrepaired : (file : List ℕ) (dropped : ℕ) (same refusal : Type 0) → (IsForeign file → ⊥) → dropped ≡ dropped_count file
-    → (most_batch < dropped → refusal × same) → MayNotOpen file → same
+    → (most_batch < dropped → refusal × same) → IsNeverOpened file → same
 is_unrepaired file dropped same refusal own is refused (inl foreign) = absurd (own foreign)
 is_unrepaired file dropped same refusal own is refused (inr more) = (refused (subst (λ (n : ℕ). most_batch < n) (sym is) more)).1
 

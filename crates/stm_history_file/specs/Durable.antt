@@ -3,16 +3,15 @@ use Rattle.std.specs.Prelude.{◌≡◌, ◌≢◌, ◌⊎◌, ⊤, ◌≤◌, �
 use Rattle.std.specs.Borrow.{Bor}
 use Rattle.stm_store.specs.Tables.{Declared}
 use Rattle.stm_events.specs.declared.event.Event.{Event}
-use Rattle.stm_events.specs.Laws.{SubmittedAreWellTyped}
-use Rattle.stm_events.specs.SlowDesk.{Slow, after, state_from}
+use Rattle.stm_events.specs.SlowDesk.{Slow, after}
 use Rattle.stm_events.specs.States.{IsLegalFrom}
-use Rattle.stm_machine.specs.Checkpoints.{CheckpointView, MayStart, start_of}
-use Rattle.stm_machine.specs.Machine.{IsAt}
+use Rattle.stm_machine.specs.Checkpoints.{CheckpointView}
 use Rattle.stm_event_lines.specs.Fits.{FitsNames, FitsFormat}
 use Rattle.stm_event_lines.specs.Lines.{declaring_format}
 use Rattle.stm_history_text.specs.HistoryText.{event_lines, history_text, start_text}
 use Rattle.stm_history.specs.Judgement.{AreEvents, AreShortLines, FormatFits, StartFits}
-use Rattle.stm_history.specs.Loading.{HasText, IsWholeHistory, ReportsLoadFault, loaded_start}
+use Rattle.stm_history.specs.Loading.{IsWholeHistory, ReportsLoadFault, loaded_start}
+pub use Rattle.stm_history.specs.Loading.{IsResumable}
 use Rattle.stm_history_text.specs.Starts.{BlocksAreOfText, Start, first_state, format_for, read_back, state_after_start}
 use Rattle.stm_history.specs.declared.loading.Loaded.{Loaded}
 use Rattle.stm_journal.specs.declared.sync_mode.SyncMode.{SyncMode}
@@ -305,8 +304,8 @@ ReportsOpenFault (History f) file = ReportsLoadFault f (recovered file)
 ReportsOpenFault Foreign file = IsForeign file
 
 -- the file is never opened: it is some other one, or more would be dropped than a batch can have
-abbrev pub MayNotOpen : List ℕ → Type 0
-MayNotOpen file = IsForeign file ⊎ (most_batch < dropped_count file)
+abbrev pub IsNeverOpened : List ℕ → Type 0
+IsNeverOpened file = IsForeign file ⊎ (most_batch < dropped_count file)
 
 -- An error of the journal at opening has a cause: of a read or a write, or when `own` says.
 pub record HasOpenCause (read write : Type 0) (own : Own) (e : OpenFault) : Type 0 where
@@ -338,19 +337,6 @@ IsOfFile (Journal e) = ⊥
 IsOfFile (History f) = ⊤
 IsOfFile Foreign = ⊤
 
--- A desk can go on from what was loaded.
-pub record IsResumable (h : Loaded) : Type 0 where
-  -- a history may begin with its table, or from its checkpoint
-  pub start : MayStart h.table h.checkpoint
-  -- its events are legal from there
-  pub legal : IsLegalFrom (start_of h.table h.checkpoint) h.events.items
-  -- the machine is at the state that they lead to
-  pub machine : IsAt h.machine (state_from (start_of h.table h.checkpoint) h.events.items)
-  -- some text is its text
-  pub text : HasText (loaded_start h) h.events.items
-  -- each block that is submitted in it is well typed
-  pub typed : SubmittedAreWellTyped h.events.items
-
 -- A file was opened, and this was loaded of it.
 pub record IsOpened {D : Type 0} (disk : Disk D) (f : HistoryFile D) (loaded : Option Loaded) : Type 0 where
   -- a desk can go on from what was loaded
@@ -377,7 +363,7 @@ pub record OpensAs {D : Type 0} (disk : Disk D) (device : D) (mode : SyncMode) (
   -- the bytes were counted that come after the whole lines, and are dropped
   pub dropped : IsTrue disk.is_honest → r.found.dropped ≡ dropped_count (disk.seen device)
   -- it is no other file, and no more was dropped than a batch can have
-  pub may_open : IsTrue disk.is_honest → MayNotOpen (disk.seen device) → ⊥
+  pub may_open : IsTrue disk.is_honest → IsNeverOpened (disk.seen device) → ⊥
   -- a crash at any moment of the call leaves what it might have left before, or the same lines
   pub any_moment : IsSettled disk device → LeavesSameLines disk device r.file.journal.device
 
@@ -390,7 +376,7 @@ pub record FailsToOpen {D : Type 0} (disk : Disk D) (device left : D) (e : OpenF
   -- a file that was judged is as it was
   pub unchanged : IsOfFile e → left ≡ device
   -- so is another file, and one of which too much would be dropped
-  pub refused : IsTrue disk.is_honest → MayNotOpen (disk.seen device) → left ≡ device
+  pub refused : IsTrue disk.is_honest → IsNeverOpened (disk.seen device) → left ≡ device
   -- a crash at any moment of the call leaves what it might have left before, or the same lines
   pub any_moment : IsSettled disk device → LeavesSameLines disk device left
   -- reads return the same lines

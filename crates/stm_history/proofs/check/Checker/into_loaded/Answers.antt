@@ -1,6 +1,6 @@
 use Rattle.std.proofs.Common.{ℕ, sym, subst, ◌∙◌}
 use Rattle.stm_history.specs.declared.check.Stage.{Stage}
-use Rattle.stm_history.specs.Stages.{IsLoaded, Reached}
+use Rattle.stm_history.specs.Stages.{KeepsEvents, Reached}
 use Rattle.stm_history_text.specs.Starts.{IsLatest}
 use Rattle.stm_history.proofs.ReadToTheEnd.{loaded_at, loaded_history}
 use Rattle.stm_history.proofs.check.Checker.into_loaded.Goals as goal
@@ -13,7 +13,7 @@ returns-clause-history c = λ taken h.
 
 pub returns-clause-latest : goal.returns-clause-latest
 returns-clause-latest c =
-    let loaded = subst IsLoaded (sym c.into_stage.ensures.same ∙ c.in-Running.is) c.requires.stage in
+    let loaded = subst KeepsEvents (sym c.into_stage.ensures.same ∙ c.in-Running.is) c.requires.stage in
     let format = sym c.loaded_of.ensures.format in
     let checkpoint = sym c.loaded_of.ensures.checkpoint in
     subst (λ (k : ℕ). IsLatest k c.loaded_of.result.checkpoint) format (subst (IsLatest c.in-Running.format) checkpoint loaded.0)
@@ -23,5 +23,5 @@ returns-clause-at c =
     let stage = sym c.into_stage.ensures.same ∙ c.in-Running.is in
     let taken = (c.requires.reached).0 in
     let reached = subst (λ (s : Stage). Reached s c.args.self.whole c.args.self.line.items taken) stage (c.requires.reached).1 in
-    let loaded = subst IsLoaded stage c.requires.stage in
+    let loaded = subst KeepsEvents stage c.requires.stage in
     loaded_at c.in-Running.format c.in-Running.table c.in-Running.checkpoint c.in-Running.replayer _ _ taken _ _ _ _ reached c.requires.line loaded.0 c.loaded_of.ensures.machine c.loaded_of.ensures.table c.loaded_of.ensures.checkpoint c.loaded_of.ensures.events
