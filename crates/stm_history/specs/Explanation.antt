@@ -1,6 +1,6 @@
 -- What is reported of the line at which a checker stopped: the line that would be accepted there for the same call, or why a desk
 -- refuses the call.
-use Rattle.std.specs.Prelude.{◌≡◌, ◌⊎◌, ℕ, ◌+◌, Bool, nat_le, if◌then◌else◌, List, [], ◌∷◌, ◌++◌, length, Option, Some, None, option_map, option_and_then, string_bytes}
+use Rattle.std.specs.Prelude.{◌≡◌, ◌⊎◌, ℕ, ◌+◌, Bool, nat_le, if◌then◌else◌, List, [], ◌∷◌, ◌++◌, length, Option, Some, None, option_map, option_and_then, string_bytes, Result, Ok, Err}
 use Rattle.stm_terms.specs.declared.verdicts.Verdict.{Verdict}
 use Rattle.stm_store.specs.Naming.{Named}
 use Rattle.stm_events.specs.declared.errors.DeliverError.{DeliverError}
@@ -17,10 +17,12 @@ use Rattle.stm_history.specs.declared.explanation.CallRefusal.{CallRefusal}
 use Rattle.stm_history.specs.declared.explanation.CallRefusal.TheVariants.{Submission, Delivery, Finish, Cancellation, Declaration, Labelling}
 use Rattle.stm_history.specs.declared.explanation.Explanation.{Explanation}
 use Rattle.stm_history.specs.declared.explanation.Explanation.TheVariants.{Expected, Refused, Unreadable}
+use Rattle.stm_history.specs.declared.explanation.Reason.{Reason}
 use Rattle.stm_history.specs.declared.fault.HistoryFault.{HistoryFault}
+use Rattle.stm_history.specs.declared.fault.Legal.{Legal}
 use Rattle.stm_history.specs.Checking.{CheckerState, at_header, at_variables, at_cells, at_blocks, at_events, Forbids, LeadsTo, LinesUpTo, NoFeed, NoNext, strange}
 use Rattle.stm_event_lines.specs.Fits.{FitsNames, FitsFormat}
-use Rattle.stm_history.specs.Judgement.{IsIllegalFrom, IsShort, next_line}
+use Rattle.stm_history.specs.Judgement.{IsHistory, IsIllegalFrom, IsShort, ReportsFault, next_line}
 use Rattle.stm_history_text.specs.Starts.{Start, first_state, names_after, state_after_start}
 use Rattle.stm_event_lines.specs.Lines.{event_line}
 
@@ -168,21 +170,33 @@ line_after (at_events start history) = next_line start history
 abbrev pub IsAfterLine : List ℕ → Type 0
 IsAfterLine rest = (rest ≡ []) ⊎ ((more : List ℕ) × (rest ≡ 10 ∷ more))
 
--- Why the bytes are no legal history: whole lines of them led to this progress; then comes the line of this number, which no line that may
--- stand there begins, or which is that of an event that can't follow; so it is the first that has a fault, which is this one; and this is
--- reported of it.
+-- Why the bytes are no legal history: whole lines of them were accepted, and the line after those is the first that has a fault.
 pub record ReportsWhy (bytes : List ℕ) (f : HistoryFault) (number : ℕ) (x : Explanation) : Type 0 where
+  -- the progress to which the whole lines before the line led
   pub progress : CheckerState
+  -- those lines, the line, without its line feed, and the bytes after it
   pub accepted : List ℕ
   pub line : List ℕ
   pub rest : List ℕ
+  -- all bytes are these
   pub text : bytes ≡ accepted ++ (line ++ rest)
+  -- the lines before the line led to this progress
   pub lines : LinesUpTo progress accepted
+  -- the line has no line feed in it, and ends with one or with the bytes
   pub one_line : NoFeed line
   pub ends : IsAfterLine rest
+  -- no line that may stand there begins so, or it is the line of an event that can't follow; that is the fault
   pub fault : ((f ≡ strange progress) × NoNext progress (line ++ rest)) ⊎ Forbids progress line f
+  -- it is the line of this number
   pub counted : number ≡ line_after progress
+  -- this is what is reported of it
   pub why : Explains progress line x
+
+-- What is judged of bytes: they are the text of a legal history, and the numbers are its own; otherwise the first fault is reported, and what is
+-- reported of its line is right.
+abbrev pub JudgesWithReason : List ℕ → Result Legal Reason → Type 0
+JudgesWithReason bytes (Ok n) = IsHistory bytes n
+JudgesWithReason bytes (Err r) = ReportsFault r.fault bytes × ReportsWhy bytes r.fault r.line r.explanation
 
 -- ---- laws
 -- two allowed events of the same call are equal, and the allowed one is what is expected

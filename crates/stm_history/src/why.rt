@@ -2,7 +2,7 @@
 
 ghost use Rattle.std.specs.Prelude.{◌≡◌, ◌≢◌, ◌++◌, [], ℕ, List, IfOk, IfErr, OnOk};
 ghost use Rattle.stm_history.specs.Checking.{CheckerState, NoFeed, StopsAt};
-ghost use Rattle.stm_history.specs.Explanation.{IsAfterLine, ReportsWhy, line_after};
+ghost use Rattle.stm_history.specs.Explanation.{IsAfterLine, JudgesWithReason, ReportsWhy, line_after};
 ghost use Rattle.stm_history.specs.Judgement.{IsHistory, ReportsFault};
 ghost use Rattle.stm_history.specs.Stages.{IsStage, CountsWithinLimits, Reached};
 ghost use Rattle.stm_history.specs.Stopping.{IsAfter, IsReportedAfter};
@@ -183,13 +183,7 @@ pub fn why_history(
     seed: Seed,
     bytes: &[u8],
 ) -> Result<Result<Legal, Reason>, NoMemory>
-    // The bytes are the text of a legal history, and the numbers are its own.
-    ensures legal { IfOk result (λ r. IfOk r (λ n. IsHistory bytes.now n)) }
-    // Otherwise the first fault is reported.
-    ensures fault { IfOk result (λ r. IfErr r (λ e. ReportsFault e.fault bytes.now)) }
-    // And what is reported of its line is right.
-    ensures why { IfOk result (λ r. IfErr r (λ e.
-        ReportsWhy bytes.now e.fault e.line e.explanation)) }
+    ensures { IfOk result (JudgesWithReason bytes.now) }
 {
     match judge_all(alloc, seed, bytes) {
         Ok(legal) => Ok(Ok(legal)),
