@@ -6,7 +6,7 @@ use Rattle.stm_terms.specs.Names.{is_name_text}
 use Rattle.stm_terms.specs.declared.kinds.Ty.{Ty}
 use Rattle.stm_store.specs.declared.table.DeclareError.TheVariants.{Twice, TypeOfValue, TableFull}
 use Rattle.stm_store.specs.Tables.{Declared, declare_refusal, declared_cells, may_hold, is_of, number_of}
-use Rattle.stm_history.specs.FileLaws.{WhatIsWrittenIsTaken}
+use Rattle.stm_history.specs.FileLaws.{WhatIsWrittenIsTaken, table_start_in}
 use Rattle.stm_event_lines.specs.Fits.{AreInRange}
 use Rattle.stm_history_text.specs.HistoryText.{history_text}
 use Rattle.stm_history.specs.Judgement.{AreVariables, AreVariablesFrom}
@@ -58,7 +58,7 @@ pub few_variables : (table : List Declared) → AreVariables table → length ta
 few_variables table a = let few = few_from [] table a (omega arith) in omega (arith, few)
 
 pub what_is_written_is_taken : WhatIsWrittenIsTaken
-what_is_written_is_taken format table history read declared range events legal =
-    let variables : AreVariables table = variables_from [] table declared range in
-    let start : Start = record { format = format; table = table; checkpoint = None } in
-    (start, history, record { text = sym (append-nil (history_text start history)); start = (read, few_variables table variables, variables); events = events; legal = record { each = legal.each; few = legal.few } }, refl)
+what_is_written_is_taken format table history can =
+    let variables : AreVariables table = variables_from [] table can.declared can.in_range in
+    let start : Start = table_start_in format table in
+    (start, history, record { text = sym (append-nil (history_text start history)); start = (can.read, few_variables table variables, variables); events = can.events; legal = record { each = can.legal.each; few = can.legal.few } }, refl)

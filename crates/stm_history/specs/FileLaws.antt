@@ -86,16 +86,28 @@ abbrev pub FaultsAreFixed : Type 0
 FaultsAreFixed =
     (bytes : List ℕ) (f g : HistoryFault) → IsOfBytes f → IsOfBytes g → ReportsFault f bytes → ReportsFault g bytes → f ≡ g
 
--- The text of a history over a table in a format that is read, legal by the rule of the format, is one of its numbers. The table
--- is one that declarations make, and its values are in the range of the program's types; each event fits the names so far and the format,
--- and its line is short.
+-- a history in this format that begins with this table
+abbrev pub table_start_in : ℕ → List Declared → Start
+table_start_in format table = record { format = format; table = table; checkpoint = None }
+
+-- A history over a table can be written in the format, and read again.
+pub record CanBeWritten (format : ℕ) (table : List Declared) (history : List Event) : Type 0 where
+  -- the format is one that is read, of histories over tables
+  pub read : IsFormat format
+  -- the table is one that declarations make
+  pub declared : AreDeclared table
+  -- its values are in the range of the program's types
+  pub in_range : AreInRange table
+  -- each event fits the names so far and the format, and its line is short
+  pub events : AreEvents format (initial_state (rule_of format) table) history
+  -- the history is legal by the rule of the format
+  pub legal : IsLegalBy (rule_of format) table history
+
+-- the text of such a history is one of its numbers
 abbrev pub WhatIsWrittenIsTaken : Type 0
 WhatIsWrittenIsTaken =
-    (format : ℕ) (table : List Declared) (history : List Event) → IsFormat format → AreDeclared table → AreInRange table
-    → AreEvents format (initial_state (rule_of format) table) history
-    → IsLegalBy (rule_of format) table history
-    → IsHistory (history_text (record { format = format; table = table; checkpoint = None }) history)
-    (numbers_from (record { format = format; table = table; checkpoint = None }) history)
+    (format : ℕ) (table : List Declared) (history : List Event) → CanBeWritten format table history
+    → IsHistory (history_text (table_start_in format table) history) (numbers_from (table_start_in format table) history)
 
 -- The text of a legal history, in a format in which it may be written, is read as that history. With a checkpoint the table isn't
 -- written, since the names are the checkpoint's, and an empty one is read; the history is the same one, and from the same state.
