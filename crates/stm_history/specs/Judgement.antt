@@ -177,11 +177,11 @@ ReportsFault (NotLegal n) bytes =
     × FitsNames (names_after start history) e × FitsFormat start.format e × IsShort (event_line e) × IsIllegalFrom start history e
 
 -- what replaying reports of a list that isn't legal: the first event, counted from 1, that can't follow those before it
-abbrev pub Refuses : HistoryFault → List Declared → List Event → Type 0
-Refuses ReadFault table history = ⊥
-Refuses BadHeader table history = ⊥
-Refuses (BadLine n) table history = ⊥
-Refuses NoMemory table history = ⊤
-Refuses (NotLegal n) table history =
+abbrev pub IsFirstIllegal : HistoryFault → List Declared → List Event → Type 0
+IsFirstIllegal ReadFault table history = ⊥
+IsFirstIllegal BadHeader table history = ⊥
+IsFirstIllegal (BadLine n) table history = ⊥
+IsFirstIllegal NoMemory table history = ⊤
+IsFirstIllegal (NotLegal n) table history =
     (front : List Event) × (e : Event) × (more : List Event) × (history ≡ front ++ e ∷ more) × IsLegal table front
     × IsIllegal table front e × (n ≡ length front + 1)

@@ -3,7 +3,7 @@
 ghost use Rattle.std.specs.Prelude.{◌≡◌, [], List, IfOk, IfErr, OnOk};
 ghost use Rattle.stm_store.specs.Tables.{Declared};
 ghost use Rattle.stm_history.specs.Following.{Follows};
-ghost use Rattle.stm_history.specs.Judgement.{numbers, Refuses};
+ghost use Rattle.stm_history.specs.Judgement.{numbers, IsFirstIllegal};
 ghost use Rattle.stm_history_text.specs.Starts.{table_start};
 ghost use Rattle.stm_events.specs.SlowDesk.{IsLegal};
 
@@ -22,7 +22,7 @@ fn step_all(replayer: &mut Replayer, history: &[Event]) -> Result<(), HistoryFau
         → Follows (table_start T) [] replayer.old
         → Follows (table_start T) history.now replayer.new) }
     ensures fault { IfErr result (λ e. (T : List Declared)
-        → Follows (table_start T) [] replayer.old → Refuses e T history.now) }
+        → Follows (table_start T) [] replayer.old → IsFirstIllegal e T history.now) }
 {
     for event in history {
         let number = replayer.events + 1;
@@ -41,7 +41,7 @@ pub fn replay(alloc: Global, table: &Table, history: &[Event]) -> Result<Legal, 
     ensures ok { IfOk result (λ n. IsLegal table.now history.now
         × (n ≡ numbers table.now history.now)) }
     // Otherwise the first event that isn't allowed is reported.
-    ensures fault { IfErr result (λ e. Refuses e table.now history.now) }
+    ensures fault { IfErr result (λ e. IsFirstIllegal e table.now history.now) }
 {
     let mut replayer = match Replayer::open(alloc, LATEST_FORMAT, table, false) {
         Ok(replayer) => replayer,

@@ -5,7 +5,7 @@ use Rattle.stm_events.specs.declared.event.Event.{Event}
 use Rattle.stm_events.specs.SlowDesk.{IsLegal}
 use Rattle.stm_events.proofs.Kept.{legal-append}
 use Rattle.stm_history.specs.declared.fault.HistoryFault.TheVariants as history_fault
-use Rattle.stm_history.specs.Judgement.{Refuses}
+use Rattle.stm_history.specs.Judgement.{IsFirstIllegal}
 use Rattle.stm_pool.specs.declared.storm.Counts.{Counts}
 use Rattle.stm_script.specs.StormScript.{StormScript, storm_script}
 use Rattle.stm_storm.specs.declared.replaying.Replay.{Replay}
@@ -19,7 +19,7 @@ legal_front table front more legal =
     let whole = length-append front more in
     record { each = (legal-append _ front more legal.each).first; few = omega (arith, legal.few, whole) }
 
-pub refused_is_illegal : (n : ℕ) (table : List Declared) (history : List Event) → Refuses (history_fault.NotLegal n) table history → ¬ IsLegal table history
+pub refused_is_illegal : (n : ℕ) (table : List Declared) (history : List Event) → IsFirstIllegal (history_fault.NotLegal n) table history → ¬ IsLegal table history
 refused_is_illegal n table history r = λ legal.
     let cut = r.3 ∙ sym (append_assoc r.0 (r.1 ∷ []) r.2) in
     r.5 (legal_front table (r.0 ++ r.1 ∷ []) r.2 (subst (IsLegal table) cut legal))
