@@ -13,7 +13,7 @@ use stm_terms::text::write_type;
 use stm_terms::values::{Ref, Value};
 
 /// A type, as histories write it: `TVar Int`.
-pub fn type_text(alloc: Global, ty: Ty) -> Result<String, NoMemory>
+pub(crate) fn type_text(alloc: Global, ty: Ty) -> Result<String, NoMemory>
     ensures { IfOk result (λ s. string_bytes s ≡ text_of_type ty) }
 {
     let mut text = String::new(alloc);
@@ -22,7 +22,7 @@ pub fn type_text(alloc: Global, ty: Ty) -> Result<String, NoMemory>
 }
 
 /// A value as JSON: a number, a truth value, `null` for the unit, or the reference to a variable as an object.
-pub fn value_json(alloc: Global, value: Value) -> Result<Json, NoMemory>
+pub(crate) fn value_json(alloc: Global, value: Value) -> Result<Json, NoMemory>
     ensures { IfOk result (λ v. view v ≡ value_data value) }
 {
     match value {

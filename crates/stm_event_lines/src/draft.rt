@@ -225,7 +225,7 @@ fn by_client<'a>(alloc: Global, bytes: &[u8]) -> Option<Draft<'a>> {
 }
 
 /// The draft of a line, if it can be read.
-pub fn draft_of(alloc: Global, line: &[u8]) -> Option<Draft<'_>> {
+pub(crate) fn draft_of(alloc: Global, line: &[u8]) -> Option<Draft<'_>> {
     if let Some(rest) = line.strip_prefix(b"{\"block\":\"") {
         submitted(rest)
     } else {

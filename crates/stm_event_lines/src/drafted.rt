@@ -181,7 +181,7 @@ fn event_of(
 }
 
 /// The event of which the line is the text, if a draft of it can be read. None says nothing of the line.
-pub fn drafted_event(
+pub(crate) fn drafted_event(
     alloc: Global,
     known: &Names,
     line: &[u8],

@@ -15,7 +15,7 @@ use stm_terms::kinds::Ty;
 use stm_terms::values::{Ref, Value};
 
 /// The number of 32 bits that a JSON value is, if it is one.
-pub fn number(json: &Json) -> Option<u32>
+pub(crate) fn number(json: &Json) -> Option<u32>
     ensures value { result ≡ u32_of (view json.now) }
     ensures fits { IfSome result (λ n. Is32Bit n) }
 {
@@ -28,14 +28,14 @@ pub fn number(json: &Json) -> Option<u32>
 }
 
 /// The text in a field of an object, if one is there.
-pub fn text_at<'a>(json: &'a Json, key: &str) -> Option<&'a str>
+pub(crate) fn text_at<'a>(json: &'a Json, key: &str) -> Option<&'a str>
     ensures { option_map (λ s. s.now) result ≡ text_field key.now (view json.now) }
 {
     json.get(key)?.as_str()
 }
 
 /// The number of 32 bits in a field of an object, if one is there.
-pub fn number_at(json: &Json, key: &str) -> Option<u32>
+pub(crate) fn number_at(json: &Json, key: &str) -> Option<u32>
     ensures value { result ≡ number_field key.now (view json.now) }
     ensures fits { IfSome result (λ n. Is32Bit n) }
 {
@@ -43,7 +43,7 @@ pub fn number_at(json: &Json, key: &str) -> Option<u32>
 }
 
 /// The type that a text writes as histories write it, if it writes one.
-pub fn type_of(alloc: Global, text: &str) -> Result<Option<Ty>, NoMemory>
+pub(crate) fn type_of(alloc: Global, text: &str) -> Result<Option<Ty>, NoMemory>
     ensures value { IfOk result (λ o. o ≡ type_meant text.now) }
     ensures fits { IfOk result (λ o. IfSome o (λ t. t.refs ≤ most_refs)) }
 {
@@ -68,7 +68,7 @@ fn reference(json: &Json) -> Option<Value>
 }
 
 /// The value that a JSON value stands for, if it stands for one.
-pub fn value(json: &Json) -> Option<Value>
+pub(crate) fn value(json: &Json) -> Option<Value>
     ensures value { result ≡ value_of (view json.now) }
     ensures fits { IfSome result (λ v. FitsValue v) }
 {
@@ -85,7 +85,7 @@ pub fn value(json: &Json) -> Option<Value>
 }
 
 /// The value in a field of an object, if one is there.
-pub fn value_at(json: &Json, key: &str) -> Option<Value>
+pub(crate) fn value_at(json: &Json, key: &str) -> Option<Value>
     ensures value { result ≡ option_and_then value_of (get key.now (view json.now)) }
     ensures fits { IfSome result (λ v. FitsValue v) }
 {
@@ -93,7 +93,7 @@ pub fn value_at(json: &Json, key: &str) -> Option<Value>
 }
 
 /// The items of the array in a field of an object, if one is there.
-pub fn array_at<'a>(json: &'a Json, key: &str) -> Option<&'a [Json]>
+pub(crate) fn array_at<'a>(json: &'a Json, key: &str) -> Option<&'a [Json]>
     ensures { option_map (λ v. items_view v.now) result
         ≡ option_and_then as_array (get key.now (view json.now)) }
 {

@@ -25,14 +25,14 @@ pub const CHECKPOINT_FORMAT: u32 = 4;
 pub const DECLARING_FORMAT: u32 = 5;
 
 /// Whether histories of the format that begin with the first values of their variables are read.
-pub fn is_format(format: u32) -> bool
+pub(crate) fn is_format(format: u32) -> bool
     ensures { IsTrue result ↔ IsFormat format }
 {
     FIRST_FORMAT <= format && format <= LATEST_FORMAT || format == DECLARING_FORMAT
 }
 
 /// Whether histories of the format that begin from a checkpoint are read.
-pub fn is_checkpoint_format(format: u32) -> bool
+pub(crate) fn is_checkpoint_format(format: u32) -> bool
     ensures test { result ≡ is_checkpoint_format format }
     ensures says { IsTrue result ↔ IsCheckpointFormat format }
 {

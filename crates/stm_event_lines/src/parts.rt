@@ -107,7 +107,7 @@ fn numbers(alloc: Global, list: &[Json]) -> Result<Option<Vec<u32>>, NoMemory>
 }
 
 /// The writes in a field of an object, each a pair of a variable and its value, if all are right.
-pub fn writes_at(
+pub(crate) fn writes_at(
     alloc: Global,
     json: &Json,
     key: &str,
@@ -123,7 +123,11 @@ pub fn writes_at(
 }
 
 /// The new variables in a field of an object, each a pair of its type and its value, if all are right.
-pub fn news_at(alloc: Global, json: &Json, key: &str) -> Result<Option<Vec<(Ty, Value)>>, NoMemory>
+pub(crate) fn news_at(
+    alloc: Global,
+    json: &Json,
+    key: &str,
+) -> Result<Option<Vec<(Ty, Value)>>, NoMemory>
     ensures value { IfOk result (λ o. option_map (λ v. v.items) o
         ≡ list_field new_of key.now (view json.now)) }
     ensures fits { IfOk result (λ o. IfSome o (λ v. FitNews v.items)) }
@@ -135,7 +139,11 @@ pub fn news_at(alloc: Global, json: &Json, key: &str) -> Result<Option<Vec<(Ty, 
 }
 
 /// The numbers of 32 bits in a field of an object, if all are right.
-pub fn numbers_at(alloc: Global, json: &Json, key: &str) -> Result<Option<Vec<u32>>, NoMemory>
+pub(crate) fn numbers_at(
+    alloc: Global,
+    json: &Json,
+    key: &str,
+) -> Result<Option<Vec<u32>>, NoMemory>
     ensures value { IfOk result (λ o. option_map (λ v. v.items) o
         ≡ list_field u32_of key.now (view json.now)) }
     ensures fits { IfOk result (λ o. IfSome o (λ v. FitNumbers v.items)) }

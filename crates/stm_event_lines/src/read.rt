@@ -51,7 +51,7 @@ impl From<NoMemory> for LineError {
 }
 
 /// The JSON value that the line is the text of.
-pub fn json_of(alloc: Global, line: &[u8]) -> Result<Json, LineError>
+pub(crate) fn json_of(alloc: Global, line: &[u8]) -> Result<Json, LineError>
     ensures ok { IfOk result (λ v. read_text line.now ≡ Some (view v)) }
     ensures bad { IsErrOf result LineError.Bad → IsUtf8 line.now → read_text line.now ≡ None }
 {
@@ -251,7 +251,7 @@ fn what_in(
 }
 
 /// The event that the value represents, if it does.
-pub fn event_of(
+pub(crate) fn event_of(
     alloc: Global,
     known: &Names,
     json: &Json,
@@ -357,7 +357,7 @@ pub struct Header {
 }
 
 /// What the value says as a first line, whether or not the format is read.
-pub fn header_of(json: &Json) -> Option<Header>
+pub(crate) fn header_of(json: &Json) -> Option<Header>
     ensures value { result ≡ header_meant (view json.now) }
     ensures fits { IfSome result (λ h. Is32Bit h.vars) }
 {
@@ -389,7 +389,7 @@ pub fn read_header(alloc: Global, line: &[u8]) -> Result<Header, LineError>
 }
 
 /// The declared variable that the value represents, if it does.
-pub fn variable_of(alloc: Global, json: &Json) -> Result<Option<Variable>, NoMemory>
+pub(crate) fn variable_of(alloc: Global, json: &Json) -> Result<Option<Variable>, NoMemory>
     ensures value { IfOk result (λ o. option_map declared o ≡ variable_meant (view json.now)) }
     ensures fits { IfOk result (λ o.
         IfSome o (λ v. (v.kind.refs ≤ most_refs) × FitsValue v.value)) }
@@ -411,7 +411,7 @@ pub fn variable_of(alloc: Global, json: &Json) -> Result<Option<Variable>, NoMem
 }
 
 /// The type under the key `type`.
-pub fn kind_at(alloc: Global, json: &Json) -> Result<Option<Ty>, NoMemory>
+pub(crate) fn kind_at(alloc: Global, json: &Json) -> Result<Option<Ty>, NoMemory>
     ensures value { IfOk result (λ o. o ≡ option_and_then type_meant
         (text_field (codes "type") (view json.now))) }
     ensures fits { IfOk result (λ o. IfSome o (λ t. t.refs ≤ most_refs)) }

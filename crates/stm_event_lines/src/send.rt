@@ -18,7 +18,11 @@ use stm_terms::values::{Fault, Ref, Value};
 use stm_terms::verdicts::Verdict;
 
 /// Sends a member whose value is a number.
-pub fn send_number_at<S: Serializer>(key: &str, number: u32, out: &mut S) -> Result<(), S::Error>
+pub(crate) fn send_number_at<S: Serializer>(
+    key: &str,
+    number: u32,
+    out: &mut S,
+) -> Result<(), S::Error>
     ensures { OnOk result (SendsMember key.now (number_data number)
         (S.written out.old) (S.written out.new)) }
 {
@@ -27,7 +31,11 @@ pub fn send_number_at<S: Serializer>(key: &str, number: u32, out: &mut S) -> Res
 }
 
 /// Sends a member whose value is a text.
-pub fn send_text_at<S: Serializer>(key: &str, text: &str, out: &mut S) -> Result<(), S::Error>
+pub(crate) fn send_text_at<S: Serializer>(
+    key: &str,
+    text: &str,
+    out: &mut S,
+) -> Result<(), S::Error>
     ensures { OnOk result (SendsMember key.now (string text.now)
         (S.written out.old) (S.written out.new)) }
 {
@@ -56,7 +64,7 @@ fn send_reference<S: Serializer>(key: &str, number: u32, out: &mut S) -> Result<
 }
 
 /// Writes a value as JSON.
-pub fn send_value<S: Serializer>(value: Value, out: &mut S) -> Result<(), S::Error>
+pub(crate) fn send_value<S: Serializer>(value: Value, out: &mut S) -> Result<(), S::Error>
     ensures { OnOk result (SendsValue (value_data value) (S.written out.old) (S.written out.new)) }
 {
     match value {
@@ -78,7 +86,7 @@ fn send_write<S: Serializer>(write: (u32, Value), out: &mut S) -> Result<(), S::
 }
 
 /// Writes a type as JSON: its text.
-pub fn send_type<S: Serializer>(alloc: Global, kind: Ty, out: &mut S) -> Result<(), S::Error>
+pub(crate) fn send_type<S: Serializer>(alloc: Global, kind: Ty, out: &mut S) -> Result<(), S::Error>
     ensures { OnOk result (SendsValue (string (text_of_type kind))
         (S.written out.old) (S.written out.new)) }
 {
@@ -98,7 +106,10 @@ fn send_new<S: Serializer>(alloc: Global, new: (Ty, Value), out: &mut S) -> Resu
 }
 
 /// Sends a list of pairs of a variable's number and a value.
-pub fn send_writes<S: Serializer>(writes: &[(u32, Value)], out: &mut S) -> Result<(), S::Error>
+pub(crate) fn send_writes<S: Serializer>(
+    writes: &[(u32, Value)],
+    out: &mut S,
+) -> Result<(), S::Error>
     ensures { OnOk result (SendsValue (array (items_of (map write_data writes.now)))
         (S.written out.old) (S.written out.new)) }
 {
@@ -125,7 +136,7 @@ fn send_news<S: Serializer>(
 }
 
 /// Sends a list of numbers.
-pub fn send_numbers<S: Serializer>(numbers: &[u32], out: &mut S) -> Result<(), S::Error>
+pub(crate) fn send_numbers<S: Serializer>(numbers: &[u32], out: &mut S) -> Result<(), S::Error>
     ensures { OnOk result (SendsValue (array (items_of (map number_data numbers.now)))
         (S.written out.old) (S.written out.new)) }
 {
@@ -218,7 +229,7 @@ fn send_overflow<S: Serializer>(out: &mut S) -> Result<(), S::Error>
 }
 
 /// Sends a verdict.
-pub fn send_verdict<S: Serializer>(
+pub(crate) fn send_verdict<S: Serializer>(
     alloc: Global,
     verdict: &Verdict,
     out: &mut S,

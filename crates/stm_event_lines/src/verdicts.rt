@@ -84,7 +84,7 @@ fn verdict(alloc: Global, json: &Json) -> Result<Option<Verdict>, NoMemory>
 }
 
 /// The verdict in a field of an object, if one is there and all its parts are right.
-pub fn verdict_at(alloc: Global, json: &Json, key: &str) -> Result<Option<Verdict>, NoMemory>
+pub(crate) fn verdict_at(alloc: Global, json: &Json, key: &str) -> Result<Option<Verdict>, NoMemory>
     ensures value { IfOk result (λ o. o
         ≡ option_and_then verdict_of (get key.now (view json.now))) }
     ensures fits { IfOk result (λ o. IfSome o (λ v. FitsVerdict v)) }

@@ -25,7 +25,7 @@ use stm_terms::values::Value;
 use stm_terms::verdicts::Verdict;
 
 /// Sends a member whose value is a verdict, under the key `verdict`.
-pub fn send_verdict_at<S: Serializer>(
+pub(crate) fn send_verdict_at<S: Serializer>(
     alloc: Global,
     verdict: &SharedVerdict,
     out: &mut S,
