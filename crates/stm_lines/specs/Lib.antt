@@ -7,6 +7,7 @@ pub mod RunStatus
 pub mod CountedCalls
 pub mod Judged
 pub mod LineReading
+pub mod LineResults
 pub mod ReadChunks
 pub mod TakenLines
 pub mod Unread

@@ -36,14 +36,14 @@ impl<'a, R: Read, L: Ledger> Calls<'a, R, L> {
     }
 
     /// Whether a call is left.
-    pub fn may_read(&self) -> bool
+    pub(crate) fn may_read(&self) -> bool
         ensures { IsTrue result ↔ (0 < self.now.left) }
     {
         self.left > 0
     }
 
     /// Calls the reader.
-    pub fn read(&mut self, buffer: &mut [u8]) -> io::Result<usize>
+    pub(crate) fn read(&mut self, buffer: &mut [u8]) -> io::Result<usize>
         requires { 0 < self.old.left }
         ensures called { CountsOneCall self.old self.new }
         ensures bound { ReadsAtMost result buffer.new }

@@ -40,7 +40,7 @@ impl Model for Chunk {
 
 impl Chunk {
     /// No bytes.
-    pub fn new() -> Chunk
+    pub(crate) fn new() -> Chunk
         ensures { result ≡ [] }
     {
         Chunk {
@@ -52,14 +52,14 @@ impl Chunk {
     }
 
     /// The bytes that are not yet taken.
-    pub fn bytes(&self) -> &[u8]
+    pub(crate) fn bytes(&self) -> &[u8]
         ensures { result.now ≡ self.now }
     {
         &self.buffer[self.at..self.end]
     }
 
     /// The place of the first line feed.
-    pub fn feed(&self) -> Option<usize>
+    pub(crate) fn feed(&self) -> Option<usize>
         ensures place { IsFirstByte (is_byte 10) self.now result }
         ensures low { IfSome result (λ at. at < CHUNK) }
     {
@@ -67,7 +67,7 @@ impl Chunk {
     }
 
     /// Takes bytes from the front, and searches for the next line feed.
-    pub fn advance(&mut self, count: usize)
+    pub(crate) fn advance(&mut self, count: usize)
         requires { count ≤ length self.old }
         ensures { self.new ≡ drop count self.old }
     {
@@ -76,7 +76,7 @@ impl Chunk {
     }
 
     /// Reads the next bytes in place of those that were there, and returns how many they are: none only at the end.
-    pub fn read<R: Read, L: Ledger>(&mut self, calls: &mut Calls<R, L>) -> io::Result<usize>
+    pub(crate) fn read<R: Read, L: Ledger>(&mut self, calls: &mut Calls<R, L>) -> io::Result<usize>
         requires { 0 < calls.old.left }
         ensures called { CountsOneCall calls.old calls.new }
         ensures few { length self.new ≤ CHUNK }

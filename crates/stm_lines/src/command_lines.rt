@@ -2,8 +2,9 @@
 
 ghost use Rattle.std.specs.Prelude.{◌≡◌, ◌≢◌, ◌<◌, ◌≤◌, ℕ, length, List, IfErr, IfOk, Ok, Option};
 ghost use Rattle.stm_lines.specs.CountedCalls.{CountsCalls};
-ghost use Rattle.stm_lines.specs.LineReading.{IsCommandLine, IsNextLineIf};
-ghost use Rattle.stm_lines.specs.TakenLines.{StopsInLine, TakesPartOfLine};
+ghost use Rattle.stm_lines.specs.LineReading.{IsNextLineIf};
+ghost use Rattle.stm_lines.specs.LineResults.{ReadsCommandLine};
+ghost use Rattle.stm_lines.specs.TakenLines.{TakesPartOfLine};
 ghost use Rattle.stm_lines.specs.Unread.{most_unread, unread};
 
 use crate::calls::Calls;
@@ -33,14 +34,10 @@ fn skip_rest<R: Read, L: Ledger>(
 ) -> Result<CommandLine, RunFault>
     requires { 65538 ≤ length lines.old.line.items }
     // If the bytes of the line that are kept are all that was taken of an input.
-    ensures line { IfOk result (λ line. (all : Option (List ℕ)) →
-        TakesPartOfLine all (unread R.remaining lines.old calls.old) lines.old.line.items →
-        IsCommandLine line all (unread R.remaining lines.new calls.new) lines.new.line.items) }
-    ensures fault { IfErr result (λ e. (all : Option (List ℕ)) →
-        TakesPartOfLine all (unread R.remaining lines.old calls.old) lines.old.line.items →
-        (bytes : List ℕ) × StopsInLine e all (unread R.remaining lines.new calls.new)
-        lines.new.chunk bytes) }
-    ensures read { IfErr result (λ e. e ≡ RunFault.Read) }
+    ensures read { (all : Option (List ℕ))
+        → TakesPartOfLine all (unread R.remaining lines.old calls.old) lines.old.line.items
+        → ReadsCommandLine all (unread R.remaining lines.new calls.new) lines.new result }
+    ensures fault { IfErr result (λ e. e ≡ RunFault.Read) }
     ensures called { CountsCalls calls.old calls.new }
     ensures shorter { result ≡ Ok CommandLine.Whole
         → most_unread lines.new calls.new < most_unread lines.old calls.old }
@@ -58,13 +55,9 @@ pub fn next_command_line<R: Read, L: Ledger>(
     lines: &mut LineReader,
     calls: &mut Calls<R, L>,
 ) -> Result<CommandLine, RunFault>
-    ensures line { IfOk result (λ line. IsCommandLine line
-        (unread R.remaining lines.old calls.old) (unread R.remaining lines.new calls.new)
-        lines.new.line.items) }
     // After a fault only bytes of one line were taken, and no line feed; after that of a read, all that was read.
-    ensures fault { IfErr result (λ e. (bytes : List ℕ) × StopsInLine e
-        (unread R.remaining lines.old calls.old) (unread R.remaining lines.new calls.new)
-        lines.new.chunk bytes) }
+    ensures read { ReadsCommandLine (unread R.remaining lines.old calls.old)
+        (unread R.remaining lines.new calls.new) lines.new result }
     ensures called { CountsCalls calls.old calls.new }
     ensures shorter { result ≡ Ok CommandLine.Whole
         → most_unread lines.new calls.new < most_unread lines.old calls.old }

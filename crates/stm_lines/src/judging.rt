@@ -45,7 +45,7 @@ fn command_len(text: &[u8]) -> usize
 }
 
 /// The rest of a text after the given number of bytes.
-pub fn after(text: &[u8], count: usize) -> &[u8]
+pub(crate) fn after(text: &[u8], count: usize) -> &[u8]
     requires { count ≤ length text.now }
     ensures { result.now ≡ drop count text.now }
 {

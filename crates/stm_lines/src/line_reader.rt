@@ -1,11 +1,12 @@
 //! Lines pulled from a reader, as they are.
 
-ghost use Rattle.std.specs.Prelude.{◌≡◌, ◌++◌, ◌+◌, ◌↔◌, [], ◌<◌, ◌≤◌, ℕ, List, drop, false, true, length, take, IfErr, IfOk, IsTrue, Ok, OnErr, OnOk, Some};
+ghost use Rattle.std.specs.Prelude.{◌≡◌, ◌++◌, ◌+◌, ◌↔◌, [], ◌<◌, ◌≤◌, drop, false, true, length, take, IfErr, IfOk, IsTrue, Ok, OnErr, OnOk, Some};
 ghost use Rattle.std.specs.Io.KnownBytes.{Consumes, IsAtEnd, Keeps};
 ghost use Rattle.memchr.specs.Find.{IsFirstByte, is_byte};
 ghost use Rattle.stm_lines.specs.CountedCalls.{CountsCalls};
-ghost use Rattle.stm_lines.specs.Lines.{drop_return as returnless, NoLineFeed};
-ghost use Rattle.stm_lines.specs.TakenLines.{HasLineFeed, IsPart, IsRead, IsSkipped, IsSkippedPart, StopsInLine};
+ghost use Rattle.stm_lines.specs.LineResults.{ReadsLine, SkipsRest};
+ghost use Rattle.stm_lines.specs.Lines.{drop_return, NoLineFeed};
+ghost use Rattle.stm_lines.specs.TakenLines.{HasLineFeed, IsPart, IsSkippedPart};
 ghost use Rattle.stm_lines.specs.Unread.{most_unread, unread};
 
 use crate::calls::Calls;
@@ -181,7 +182,8 @@ pub struct LineReader {
 impl LineReader {
     /// A reader of lines that has read no byte.
     pub fn new(alloc: Global) -> LineReader
-        ensures { result.chunk ≡ [] }
+        ensures chunk { result.chunk ≡ [] }
+        ensures line { result.line.items ≡ [] }
     {
         LineReader {
             chunk: Chunk::new(),
@@ -210,13 +212,8 @@ impl LineReader {
         calls: &mut Calls<R, L>,
         limit: usize,
     ) -> Result<Line, RunFault>
-        ensures line { IfOk result (λ line. IsRead line limit
-            (unread R.remaining self.old calls.old) (unread R.remaining self.new calls.new)
-            self.new.line.items) }
-        // The line has the bytes that were taken of it.
-        ensures fault { IfErr result (λ e. StopsInLine e
-            (unread R.remaining self.old calls.old) (unread R.remaining self.new calls.new)
-            self.new.chunk self.new.line.items) }
+        ensures read { ReadsLine limit (unread R.remaining self.old calls.old)
+            (unread R.remaining self.new calls.new) self.new result }
         ensures called { CountsCalls calls.old calls.new }
         // No call is made if the line is whole in the bytes that were read.
         ensures buffered { HasLineFeed self.old.chunk → calls.new.left ≡ calls.old.left }
@@ -244,16 +241,13 @@ impl LineReader {
 
     /// Takes the rest of a line with its line feed, or to the end of the input; returns whether there is a line feed. `line`
     /// stays as it is.
-    pub fn skip_line<R: Read, L: Ledger>(
+    pub(crate) fn skip_line<R: Read, L: Ledger>(
         &mut self,
         calls: &mut Calls<R, L>,
     ) -> Result<bool, RunFault>
         ensures same_line { self.new.line.items ≡ self.old.line.items }
-        ensures skipped { IfOk result (λ feed. IsSkipped feed
-            (unread R.remaining self.old calls.old) (unread R.remaining self.new calls.new)) }
-        ensures fault { IfErr result (λ e. (e ≡ RunFault.Read) × (bytes : List ℕ) × StopsInLine e
-            (unread R.remaining self.old calls.old) (unread R.remaining self.new calls.new)
-            self.new.chunk bytes) }
+        ensures read { SkipsRest (unread R.remaining self.old calls.old)
+            (unread R.remaining self.new calls.new) self.new result }
         ensures called { CountsCalls calls.old calls.new }
         ensures fewer { OnOk result (most_unread self.new calls.new ≤ most_unread self.old calls.old) }
         ensures shorter { result ≡ Ok true
@@ -270,9 +264,9 @@ impl LineReader {
     }
 
     /// Drops one carriage return at the end of the line.
-    pub fn drop_return(&mut self)
+    pub(crate) fn drop_return(&mut self)
         ensures chunk { self.new.chunk ≡ self.old.chunk }
-        ensures line { self.new.line.items ≡ returnless self.old.line.items }
+        ensures line { self.new.line.items ≡ drop_return self.old.line.items }
     {
         let len = self.line.len();
         if len > 0 && self.line[len - 1] == b'\r' {

@@ -17,7 +17,7 @@ use Rattle.stm_journaled_run.proofs.streams.answer_next.Goals as goal
 -- ---- a line that a line feed ended
 pub returns-in-Ok-clause-done : goal.returns-in-Ok-clause-done
 returns-in-Ok-clause-done g c = λ first input old h.
-    let w = rw c.in-Ok-Whole.field-0-is at c.in-Ok-Whole.ensures.line in
+    let w = rw c.in-Ok-Whole.field-0-is at c.in-Ok-Whole.ensures.read in
     let same : line_class c.line.result.now ≡ line_class (drop_return w.0) = ap line_class c.line.ensures ∙ w.2 in
     let next = c.in-Ok.ensures.done first h.lines old (drop_return w.0) same h.after in
     comes_on _ c.args.every first input _ old _ _ _ _ h _ w.0 next.0 _ _ _ _ _ w.1 next.1
@@ -26,7 +26,7 @@ pub returns-in-Ok-clause-any_moment : goal.returns-in-Ok-clause-any_moment
 returns-in-Ok-clause-any_moment g c = λ honest first input old h.
     let D = g.D.Device.disk in
     let f = c.args.file.now in
-    let w = rw c.in-Ok-Whole.field-0-is at c.in-Ok-Whole.ensures.line in
+    let w = rw c.in-Ok-Whole.field-0-is at c.in-Ok-Whole.ensures.read in
     let same : line_class c.line.result.now ≡ line_class (drop_return w.0) = ap line_class c.line.ensures ∙ w.2 in
     input_run _ D f.journal.sync D.fills_with_zeros c.args.every first (h.lines ++ made_turn (drop_return w.0) ∷ []) input f.journal.device c.answer_line.new.file.journal.device
     (on_begins _ c.args.every first input _ old _ _ _ _ h _ w.0 None w.1) (c.answer_line.ensures.any_moment honest first h.lines old (drop_return w.0) same h.after)
@@ -34,7 +34,7 @@ returns-in-Ok-clause-any_moment g c = λ honest first input old h.
 pub returns-in-Err-answer_line-clause-fault : goal.returns-in-Err-answer_line-clause-fault
 returns-in-Err-answer_line-clause-fault g c = λ first input old h.
     let D = g.D.Device.disk in
-    let w = rw c.in-Ok-Whole.field-0-is at c.in-Ok-Whole.ensures.line in
+    let w = rw c.in-Ok-Whole.field-0-is at c.in-Ok-Whole.ensures.read in
     let same : line_class c.line.result.now ≡ line_class (drop_return w.0) = ap line_class c.line.ensures ∙ w.2 in
     failed_run D.is_honest c.args.file.now.journal.sync D.fills_with_zeros (D.may_leave c.answer_line.new.file.journal.device) _ c.args.every first (h.lines ++ made_turn (drop_return w.0) ∷ []) input old _ _
     (on_begins _ c.args.every first input _ old _ _ _ _ h _ w.0 None w.1) (c.in-Err-answer_line.ensures.fault first h.lines old (drop_return w.0) same h.after)
@@ -43,7 +43,7 @@ pub returns-in-Err-answer_line-clause-any_moment : goal.returns-in-Err-answer_li
 returns-in-Err-answer_line-clause-any_moment g c = λ honest first input old h.
     let D = g.D.Device.disk in
     let f = c.args.file.now in
-    let w = rw c.in-Ok-Whole.field-0-is at c.in-Ok-Whole.ensures.line in
+    let w = rw c.in-Ok-Whole.field-0-is at c.in-Ok-Whole.ensures.read in
     let same : line_class c.line.result.now ≡ line_class (drop_return w.0) = ap line_class c.line.ensures ∙ w.2 in
     input_run _ D f.journal.sync D.fills_with_zeros c.args.every first (h.lines ++ made_turn (drop_return w.0) ∷ []) input f.journal.device c.answer_line.new.file.journal.device
     (on_begins _ c.args.every first input _ old _ _ _ _ h _ w.0 None w.1) (c.answer_line.ensures.any_moment honest first h.lines old (drop_return w.0) same h.after)
@@ -107,7 +107,7 @@ returns-in-Err-answer_line-clause-read_fault g c = λ e. absurd (c.in-Err-answer
 -- ---- the last line
 pub returns-in-Ok-answer_line-clause-done : goal.returns-in-Ok-answer_line-clause-done
 returns-in-Ok-answer_line-clause-done g c = λ first input old h.
-    let w = rw c.in-Ok-Last.field-0-is at c.in-Ok-Last.ensures.line in
+    let w = rw c.in-Ok-Last.field-0-is at c.in-Ok-Last.ensures.read in
     let same : line_class c.line-in-Ok-Last.result.now ≡ line_class w.0 = ap line_class c.line-in-Ok-Last.ensures ∙ w.3 in
     let next = c.in-Ok-answer_line.ensures.done first h.lines old w.0 same h.after in
     ends_with _ c.args.every first input _ old _ _ _ _ h _ w.0 next.0 _ _ _ _ _ w.1 w.2 next.1
@@ -116,7 +116,7 @@ pub returns-in-Ok-answer_line-clause-any_moment : goal.returns-in-Ok-answer_line
 returns-in-Ok-answer_line-clause-any_moment g c = λ honest first input old h.
     let D = g.D.Device.disk in
     let f = c.args.file.now in
-    let w = rw c.in-Ok-Last.field-0-is at c.in-Ok-Last.ensures.line in
+    let w = rw c.in-Ok-Last.field-0-is at c.in-Ok-Last.ensures.read in
     let same : line_class c.line-in-Ok-Last.result.now ≡ line_class w.0 = ap line_class c.line-in-Ok-Last.ensures ∙ w.3 in
     input_run _ D f.journal.sync D.fills_with_zeros c.args.every first (h.lines ++ made_turn w.0 ∷ []) input f.journal.device c.answer_line-in-Ok-Last.new.file.journal.device
     (last_begins (turn_lines (h.lines ++ made_turn w.0 ∷ [])) input (last_lines _ c.args.every first input _ old _ _ _ _ h _ w.0 None w.1 w.2)) (c.answer_line-in-Ok-Last.ensures.any_moment honest first h.lines old w.0 same h.after)
@@ -124,7 +124,7 @@ returns-in-Ok-answer_line-clause-any_moment g c = λ honest first input old h.
 pub returns-in-Err-answer_line-2-clause-fault : goal.returns-in-Err-answer_line-2-clause-fault
 returns-in-Err-answer_line-2-clause-fault g c = λ first input old h.
     let D = g.D.Device.disk in
-    let w = rw c.in-Ok-Last.field-0-is at c.in-Ok-Last.ensures.line in
+    let w = rw c.in-Ok-Last.field-0-is at c.in-Ok-Last.ensures.read in
     let same : line_class c.line-in-Ok-Last.result.now ≡ line_class w.0 = ap line_class c.line-in-Ok-Last.ensures ∙ w.3 in
     failed_run D.is_honest c.args.file.now.journal.sync D.fills_with_zeros (D.may_leave c.answer_line-in-Ok-Last.new.file.journal.device) _ c.args.every first (h.lines ++ made_turn w.0 ∷ []) input old _ _
     (last_begins (turn_lines (h.lines ++ made_turn w.0 ∷ [])) input (last_lines _ c.args.every first input _ old _ _ _ _ h _ w.0 None w.1 w.2)) (c.in-Err-answer_line-2.ensures.fault first h.lines old w.0 same h.after)
@@ -133,7 +133,7 @@ pub returns-in-Err-answer_line-2-clause-any_moment : goal.returns-in-Err-answer_
 returns-in-Err-answer_line-2-clause-any_moment g c = λ honest first input old h.
     let D = g.D.Device.disk in
     let f = c.args.file.now in
-    let w = rw c.in-Ok-Last.field-0-is at c.in-Ok-Last.ensures.line in
+    let w = rw c.in-Ok-Last.field-0-is at c.in-Ok-Last.ensures.read in
     let same : line_class c.line-in-Ok-Last.result.now ≡ line_class w.0 = ap line_class c.line-in-Ok-Last.ensures ∙ w.3 in
     input_run _ D f.journal.sync D.fills_with_zeros c.args.every first (h.lines ++ made_turn w.0 ∷ []) input f.journal.device c.answer_line-in-Ok-Last.new.file.journal.device
     (last_begins (turn_lines (h.lines ++ made_turn w.0 ∷ [])) input (last_lines _ c.args.every first input _ old _ _ _ _ h _ w.0 None w.1 w.2)) (c.answer_line-in-Ok-Last.ensures.any_moment honest first h.lines old w.0 same h.after)
@@ -189,7 +189,7 @@ returns-in-Err-answer_line-2-clause-read_fault g c = λ e. absurd (c.in-Err-answ
 -- ---- no line is left
 pub returns-in-Ok-End-clause-done : goal.returns-in-Ok-End-clause-done
 returns-in-Ok-End-clause-done g c = λ first input old h.
-    ends_here _ c.args.every first input _ old _ _ _ _ h _ (rw c.in-Ok-End.field-0-is at c.in-Ok-End.ensures.line)
+    ends_here _ c.args.every first input _ old _ _ _ _ h _ (rw c.in-Ok-End.field-0-is at c.in-Ok-End.ensures.read)
 
 pub returns-in-Ok-End-clause-any_moment : goal.returns-in-Ok-End-clause-any_moment
 returns-in-Ok-End-clause-any_moment g c = λ honest first input old h.
@@ -238,7 +238,7 @@ pub returns-in-Ok-commit-clause-read_fault : goal.returns-in-Ok-commit-clause-re
 returns-in-Ok-commit-clause-read_fault g c = λ e first input old h.
     let same = same_fault c.in-Err.fault Read (same_error _ _ e) in
     let left = g.R.Read.remaining c.next_command_line.new.calls.reader.now in
-    let part = rw same at c.in-Err.ensures.fault in
+    let part = rw same at c.in-Err.ensures.read in
     whole_answered _ c.args.every first input _ old _ _ _ _ h _ _ _ part.0 part.1.0 (ap (λ (l : List ℕ). prepend_known l left) part.1.1 ∙ prepend_known-nil left)
     (finished _ c.args.every first h.lines old _ _ _ _ h.after.behind (λ s. Unit {0}) _ c.in-Ok-commit.ensures.done tt).appended
 

@@ -5,8 +5,8 @@ use Rattle.stm_lines.proofs.CallsInTurn.{CountsCalls-trans}
 use Rattle.stm_lines.proofs.TakenParts.{TakesPartOfLine-kept, TakesPartOfLine-refilled, TakesLastLine-ended, whole_taken, too_long_taken, all_taken, not_empty}
 use Rattle.stm_lines.proofs.line_reader.LineReader.next_line.Goals as goal
 
-pub returns-in_err-take_part-clause-fault : goal.returns-in_err-take_part-clause-fault
-returns-in_err-take_part-clause-fault g c =
+pub returns-in_err-take_part-clause-read : goal.returns-in_err-take_part-clause-read
+returns-in_err-take_part-clause-read g c =
     let p = err_from_is_err_and c.from_residual.result c.from_residual.ensures.1 in
     rw (p.1, p.2, c.in_err-take_part.ensures.fault, c.in_err-take_part.ensures.same_line, c.in_err-take_part.ensures.same_chunk) c.parts.invariant.begun
 
@@ -20,8 +20,8 @@ returns-in-Whole-clause-fewer g c =
     let s = whole_taken c.args.limit c.in_ok-take_part.field-0 _ _ c.parts.self.line.items c.take_part.new.line.items c.parts.self.chunk c.take_part.new.chunk c.parts.invariant.begun c.in-Whole.is c.in_ok-take_part.ensures.part in
     omega (arith, c.parts.invariant.fewer, s.2)
 
-pub returns-in-Whole-clause-line : goal.returns-in-Whole-clause-line
-returns-in-Whole-clause-line g c =
+pub returns-in-Whole-clause-read : goal.returns-in-Whole-clause-read
+returns-in-Whole-clause-read g c =
     let s = whole_taken c.args.limit c.in_ok-take_part.field-0 _ _ c.parts.self.line.items c.take_part.new.line.items c.parts.self.chunk c.take_part.new.chunk c.parts.invariant.begun c.in-Whole.is c.in_ok-take_part.ensures.part in
     (s.0, s.1)
 
@@ -30,13 +30,13 @@ returns-in-TooLong-clause-fewer g c =
     let s = too_long_taken c.args.limit c.in_ok-take_part.field-0 _ _ c.parts.self.line.items c.take_part.new.line.items c.parts.self.chunk c.take_part.new.chunk c.parts.invariant.begun c.in-TooLong.is c.in_ok-take_part.ensures.part in
     omega (arith, c.parts.invariant.fewer, s.2)
 
-pub returns-in-TooLong-clause-line : goal.returns-in-TooLong-clause-line
-returns-in-TooLong-clause-line g c =
+pub returns-in-TooLong-clause-read : goal.returns-in-TooLong-clause-read
+returns-in-TooLong-clause-read g c =
     let s = too_long_taken c.args.limit c.in_ok-take_part.field-0 _ _ c.parts.self.line.items c.take_part.new.line.items c.parts.self.chunk c.take_part.new.chunk c.parts.invariant.begun c.in-TooLong.is c.in_ok-take_part.ensures.part in
     (s.0, s.1)
 
-pub returns-in_err-fill-clause-fault : goal.returns-in_err-fill-clause-fault
-returns-in_err-fill-clause-fault g c =
+pub returns-in_err-fill-clause-read : goal.returns-in_err-fill-clause-read
+returns-in_err-fill-clause-read g c =
     let p = err_from_is_err_and c.from_residual-in_err-fill.result c.from_residual-in_err-fill.ensures.1 in
     let s = all_taken c.args.limit c.in_ok-take_part.field-0 _ _ c.parts.self.line.items c.take_part.new.line.items c.parts.self.chunk c.take_part.new.chunk c.parts.invariant.begun c.in-More.is c.in_ok-take_part.ensures.part in
     rw (p.1, p.2, c.in_err-fill.ensures.fault) (
@@ -44,8 +44,8 @@ returns-in_err-fill-clause-fault g c =
       c.in_err-fill.ensures.none,
     )
 
-pub returns-then-is_empty-clause-line : goal.returns-then-is_empty-clause-line
-returns-then-is_empty-clause-line g c =
+pub returns-then-is_empty-clause-read : goal.returns-then-is_empty-clause-read
+returns-then-is_empty-clause-read g c =
     let s = all_taken c.args.limit c.in_ok-take_part.field-0 _ _ c.parts.self.line.items c.take_part.new.line.items c.parts.self.chunk c.take_part.new.chunk c.parts.invariant.begun c.in-More.is c.in_ok-take_part.ensures.part in
     let e = c.in_ok-fill.ensures.end c.if-not-branch.true in
     let n = eqb-true (vec_len c.take_part.new.line) 0 (sym c.if-is_empty.ensures) in
@@ -54,8 +54,8 @@ returns-then-is_empty-clause-line g c =
       nil_from_length line (omega (arith, n, c.take_part.new.line.ok.0)),
     )
 
-pub returns-else-is_empty-clause-line : goal.returns-else-is_empty-clause-line
-returns-else-is_empty-clause-line g c =
+pub returns-else-is_empty-clause-read : goal.returns-else-is_empty-clause-read
+returns-else-is_empty-clause-read g c =
     let s = all_taken c.args.limit c.in_ok-take_part.field-0 _ _ c.parts.self.line.items c.take_part.new.line.items c.parts.self.chunk c.take_part.new.chunk c.parts.invariant.begun c.in-More.is c.in_ok-take_part.ensures.part in
     let e = c.in_ok-fill.ensures.end c.if-not-branch.true in
     let n = not_empty (vec_len c.take_part.new.line) c.if-is_empty.ensures in
