@@ -2,11 +2,10 @@
 use Rattle.std.proofs.Common.{◌≡◌, ℕ, List, [], Option, Some, None, Err, IfSome, inl, inr, refl, subst}
 use Rattle.std.specs.Io.KnownBytes.{Keeps}
 use Rattle.std.proofs.KnownBytes.{Appends-kept, Appends-nil, Keeps-refl}
-use Rattle.stm_lines.specs.WrittenFronts.{WritesFront}
+use Rattle.stm_lines.specs.WrittenFronts.{WritesFront, WritesSome}
 use Rattle.stm_lines.specs.declared.run_fault.RunFault.{RunFault}
 use Rattle.stm_lines.specs.declared.run_fault.RunFault.TheVariants.{Write}
 use Rattle.stm_console.specs.Checking.{BeginsFindingText, IsFinding, WritesFinding, finding_text}
-use Rattle.stm_console.specs.WrittenTexts.{WritesSome}
 use Rattle.stm_console.specs.declared.checking.Finding.{Finding}
 
 -- a writer that holds what it held has got nothing, which begins what is printed of any bytes

@@ -5,8 +5,8 @@ use Rattle.std.proofs.KnownBytes.{Appends-kept, Appends-nil, Keeps-refl}
 use Rattle.stm_terms.specs.Texts.{IsPrefixOf}
 use Rattle.stm_lines.specs.declared.run_fault.RunFault.{RunFault}
 use Rattle.stm_lines.specs.declared.run_fault.RunFault.TheVariants.{Write}
+use Rattle.stm_lines.specs.WrittenFronts.{WritesSome}
 use Rattle.stm_console.specs.Why.{BeginsAnswerWhy, IsAnswerWhy, WritesWhy}
-use Rattle.stm_console.specs.WrittenTexts.{WritesSome}
 use Rattle.stm_console.specs.declared.checking.Finding.{Finding}
 
 -- a front of what is printed

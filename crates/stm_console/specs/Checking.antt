@@ -4,12 +4,12 @@ use Rattle.std.specs.Io.KnownBytes.{Appends, Keeps}
 use Rattle.stm_terms.specs.Texts.{IsPrefixOf}
 use Rattle.stm_lines.specs.declared.run_fault.RunFault.{RunFault}
 use Rattle.stm_lines.specs.declared.run_fault.RunFault.TheVariants.{Write}
+use Rattle.stm_lines.specs.WrittenFronts.{WritesSome}
 use Rattle.stm_history.specs.declared.fault.HistoryFault.TheVariants as fault
 use Rattle.stm_history.specs.declared.fault.Legal.{Legal}
 use Rattle.stm_history.specs.Judgement.{IsHistory, ReportsFault}
 use Rattle.stm_console.specs.declared.checking.Finding.{Finding}
 use Rattle.stm_console.specs.declared.checking.Finding.TheVariants.{Legal as LegalFound, BadHeader, BadLine, NotLegal}
-use Rattle.stm_console.specs.WrittenTexts.{WritesSome}
 
 -- the bytes are the text of a legal history with this number of events, or this is their first fault
 abbrev pub IsFinding : List ℕ → Finding → Type 0

@@ -4,6 +4,5 @@ pub mod Checking
 pub mod ExitStatus
 pub mod Journal
 pub mod Why
-pub mod WrittenTexts
 -- what follows: the laws of the exit statuses
 pub mod StatusLaws

@@ -3,7 +3,7 @@ use Rattle.std.specs.Prelude.{◌≡◌, ◌⊎◌, ℕ, List, [], ◌∷◌, Op
 use Rattle.std.specs.Io.KnownBytes.{Appends, Keeps}
 use Rattle.clap.specs.Words.{Kinds}
 use Rattle.stm_lines.specs.Lines.{lines_of}
-use Rattle.stm_lines.specs.WrittenFronts.{WritesFront}
+use Rattle.stm_lines.specs.WrittenFronts.{WritesFront, WritesSome}
 use Rattle.stm_history.specs.declared.loading.Loaded.{Loaded}
 use Rattle.stm_journal.specs.Text.{recovered}
 use Rattle.stm_history_file.specs.Durable.{LoadsFront}
@@ -23,7 +23,6 @@ use Rattle.stm_console.specs.ExitStatus.{IsFailure, finding_status}
 use Rattle.stm_console.specs.declared.checking.Finding.{Finding}
 use Rattle.stm_console.specs.Journal.{HasNoHistory}
 use Rattle.stm_console.specs.Why.{BeginsAnswerWhy, IsAnswerWhy}
-use Rattle.stm_console.specs.WrittenTexts.{WritesSome}
 use Rattle.stm_console.specs.declared.status.TheConstants.{DONE, NOT_RIGHT, NO_MEMORY, REFUSED}
 
 -- ---- what words ask for

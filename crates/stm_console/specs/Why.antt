@@ -4,6 +4,7 @@ use Rattle.std.specs.Io.KnownBytes.{Keeps}
 use Rattle.stm_terms.specs.Texts.{IsPrefixOf}
 use Rattle.stm_lines.specs.declared.run_fault.RunFault.{RunFault}
 use Rattle.stm_lines.specs.declared.run_fault.RunFault.TheVariants.{Write}
+use Rattle.stm_lines.specs.WrittenFronts.{WritesSome}
 use Rattle.stm_history.specs.declared.explanation.CallRefusal.{CallRefusal}
 use Rattle.stm_history.specs.declared.explanation.CallRefusal.TheVariants.{Submission, Delivery, Finish, Cancellation, Declaration, Labelling}
 use Rattle.stm_history.specs.declared.explanation.Explanation.{Explanation}
@@ -14,7 +15,6 @@ use Rattle.stm_commands.specs.Refusals.{submit_error_text, deliver_error_text, f
 use Rattle.stm_console.specs.declared.checking.Finding.{Finding}
 use Rattle.stm_console.specs.declared.checking.Finding.TheVariants.{Legal, BadHeader, BadLine, NotLegal}
 use Rattle.stm_console.specs.Checking.{IsFinding, finding_text}
-use Rattle.stm_console.specs.WrittenTexts.{WritesSome}
 
 -- a refusal, as a run prints it
 abbrev pub call_refusal_text : CallRefusal → List ℕ

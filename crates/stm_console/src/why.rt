@@ -2,9 +2,9 @@
 
 ghost use Rattle.std.specs.Prelude.{◌≡◌, ◌≢◌, ◌++◌, [], ℕ, List, IfErr, IfOk, IfSome, OnErr, OnOk, codes, decimal, string_bytes};
 ghost use Rattle.std.specs.Io.KnownBytes.{Keeps};
+ghost use Rattle.stm_lines.specs.WrittenFronts.{WritesSome};
 ghost use Rattle.stm_console.specs.Checking.{finding_text};
 ghost use Rattle.stm_console.specs.Why.{BeginsAnswerWhy, IsAnswerWhy, WritesWhy, call_refusal_text, explanation_text};
-ghost use Rattle.stm_console.specs.WrittenTexts.{WritesSome};
 ghost use Rattle.stm_history.specs.Explanation.{ReportsWhy};
 ghost use Rattle.stm_history.specs.Judgement.{ReportsFault};
 

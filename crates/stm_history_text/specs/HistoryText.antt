@@ -1,9 +1,7 @@
 -- The text of a whole history: the first line, a line for each variable, one for each waiting block of a checkpoint, and one for
 -- each event.
-use Rattle.std.specs.Prelude.{ℕ, ◌+◌, List, [], ◌∷◌, ◌++◌, length, MatchResult, Option, Some, None}
-use Rattle.std.specs.Io.KnownBytes.{Appends}
-use Rattle.std.specs.declared.result.Result.{Result}
-use Rattle.stm_lines.specs.WrittenFronts.{WritesFront}
+use Rattle.std.specs.Prelude.{ℕ, ◌+◌, List, [], ◌∷◌, ◌++◌, length, Option, Some, None}
+pub use Rattle.stm_lines.specs.WrittenFronts.{WritesText}
 use Rattle.stm_store.specs.declared.cell.Cell.{Cell}
 use Rattle.stm_store.specs.Naming.{Named, name_numbered}
 use Rattle.stm_store.specs.Tables.{Declared}
@@ -68,9 +66,3 @@ start_text s = text_before s.format s.table s.checkpoint
 -- a whole history: the lines of its start, and those of the events
 abbrev pub history_text : Start → List Event → List ℕ
 history_text s history = start_text s ++ event_lines history
-
--- ---- writing it
-
--- the text was written, or after a fault a part of it from its front
-abbrev pub WritesText : {E : Type 0} → Result Unit E → Option (List ℕ) → Option (List ℕ) → List ℕ → Type 0
-WritesText r old new text = MatchResult r (λ _. Appends old new text) (λ _. WritesFront old new text)

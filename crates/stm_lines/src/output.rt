@@ -1,9 +1,9 @@
 //! Bytes for a writer.
 
-ghost use Rattle.std.specs.Prelude.{◌≡◌, OnOk, OnErr, IfErr};
+ghost use Rattle.std.specs.Prelude.{◌≡◌, IfErr};
 ghost use Rattle.std.specs.Io.{WritesAtMost};
-ghost use Rattle.std.specs.Io.KnownBytes.{Appends, Keeps, WriteAppends};
-ghost use Rattle.stm_lines.specs.WrittenFronts.{WritesFront};
+ghost use Rattle.std.specs.Io.KnownBytes.{Keeps, WriteAppends};
+ghost use Rattle.stm_lines.specs.WrittenFronts.{WritesText};
 
 use crate::run_fault::RunFault;
 use std::io::{ErrorKind, Write};
@@ -27,8 +27,7 @@ fn write_some<W: Write>(writer: &mut W, text: &[u8]) -> Result<usize, RunFault>
 
 /// Writes all of a text, or a part from its front.
 pub fn write_text<W: Write>(writer: &mut W, text: &[u8]) -> Result<(), RunFault>
-    ensures done { OnOk result (Appends (W.contents writer.old) (W.contents writer.new) text.now) }
-    ensures part { OnErr result (WritesFront (W.contents writer.old) (W.contents writer.new) text.now) }
+    ensures written { WritesText result (W.contents writer.old) (W.contents writer.new) text.now }
     ensures fault { IfErr result (λ e. e ≡ RunFault.Write) }
 {
     let mut at = 0;
@@ -59,8 +58,7 @@ pub fn flush<W: Write>(writer: &mut W) -> Result<(), RunFault>
 
 /// Writes a text and flushes.
 pub fn write_flushed<W: Write>(writer: &mut W, text: &[u8]) -> Result<(), RunFault>
-    ensures done { OnOk result (Appends (W.contents writer.old) (W.contents writer.new) text.now) }
-    ensures part { OnErr result (WritesFront (W.contents writer.old) (W.contents writer.new) text.now) }
+    ensures written { WritesText result (W.contents writer.old) (W.contents writer.new) text.now }
     ensures fault { IfErr result (λ e. e ≡ RunFault.Write) }
 {
     match write_text(writer, text) {
