@@ -1,12 +1,10 @@
 -- Where the line feeds of a chunk are.
-use Rattle.std.proofs.Common.{◌≡◌, ◌≢◌, ℕ, ◌+◌, ◌≤◌, ◌<◌, ◌↔◌, Bool, Option, Some, None, List, ◌∷◌, ◌++◌, take, drop, get_or, sym, ap, ◌∙◌, arith, eqb-true, eq-eqb, add-one}
+use Rattle.std.proofs.Common.{◌≡◌, ◌≢◌, ℕ, ◌+◌, ◌≤◌, ◌<◌, Some, None, List, ◌∷◌, ◌++◌, take, drop, get_or, sym, ap, ◌∙◌, arith, eqb-true, eq-eqb, add-one}
 use Rattle.std.proofs.Math.Seq.{drop-cons}
 use Rattle.std.proofs.lemmas.List.{take-append-drop, get_or-take, length-take}
-use Rattle.std.proofs.lemmas.List.Elements.{All-get_or, All-from_get_or}
-use Rattle.std.specs.Prelude.{IsTrue, is_some}
+use Rattle.std.proofs.lemmas.List.Elements.{All-from_get_or}
 use Rattle.memchr.specs.Find.{IsFirstByte, Nowhere, Passes, is_byte}
 use Rattle.stm_lines.specs.Lines.{NoLineFeed}
-use Rattle.stm_lines.specs.TakenLines.{HasLineFeed}
 
 -- the search for a line feed found none
 pub NoLineFeed-all : (bytes : List ℕ) → IsFirstByte (is_byte 10) bytes None → NoLineFeed bytes
@@ -23,11 +21,3 @@ pub split-at : (bytes : List ℕ) (at : ℕ) → IsFirstByte (is_byte 10) bytes 
 split-at bytes at h =
     let next : drop at bytes ≡ get_or bytes at 0 ∷ drop (at + 1) bytes = rw add-one (drop-cons bytes at 0 h.0.high) in
     sym (take-append-drop at bytes) ∙ ap (λ l. take at bytes ++ l) (next ∙ ap (λ b. b ∷ drop (at + 1) bytes) (eqb-true _ _ h.1))
-
-found : (bytes : List ℕ) (at : ℕ) → IsFirstByte (is_byte 10) bytes (Some at) → HasLineFeed bytes
-found bytes at f = λ h. All-get_or (λ b. b ≢ 10) bytes at 0 f.0.high h (eqb-true _ _ f.1)
-
--- the search finds a line feed if there is one
-pub HasLineFeed-found : (bytes : List ℕ) (feed : Option ℕ) (some : Bool) → IsFirstByte (is_byte 10) bytes feed → some ≡ is_some feed → IsTrue some ↔ HasLineFeed bytes
-HasLineFeed-found bytes None some f e = (λ t. absurd (cc), λ h. absurd (h (NoLineFeed-all bytes f)))
-HasLineFeed-found bytes (Some at) some f e = (λ t. found bytes at f, λ h. e)

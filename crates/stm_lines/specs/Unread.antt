@@ -1,5 +1,5 @@
 -- What a line reader and the calls that are left to it still have of an input.
-use Rattle.std.specs.Prelude.{◌≡◌, ℕ, ◌+◌, List, Option}
+use Rattle.std.specs.Prelude.{ℕ, List, Option}
 use Rattle.std.specs.Io.KnownBytes.{prepend_known}
 use Rattle.stm_lines.specs.declared.calls.Calls.{Calls}
 use Rattle.stm_lines.specs.declared.line_reader.LineReader.{LineReader}

@@ -1,4 +1,4 @@
-use Rattle.std.proofs.Common.{◌≡◌, ℕ, ◌+◌, ◌≤◌, List}
+use Rattle.std.proofs.Common.{◌≡◌, ℕ, ◌≤◌, List}
 use Rattle.std.specs.Io.KnownBytes.{prepend_known}
 use Rattle.stm_lines.specs.CountedCalls.{CountsCalls}
 use Rattle.stm_lines.specs.TakenLines.{bytes_to_come, TakesPartOfLine}
