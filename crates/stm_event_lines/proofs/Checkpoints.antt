@@ -34,9 +34,6 @@ use Rattle.stm_event_lines.proofs.Types.{type_back}
 
 -- ---- no float
 
-pub checkpoint_header_exact : (format next vars waiting : ℕ) → has_float (checkpoint_header_data format next vars waiting) ≡ false
-checkpoint_header_exact format next vars waiting = refl
-
 name_exact : (name : Option (List ℕ)) → has_float (name_data name) ≡ false
 name_exact (Some name) = refl
 name_exact None = refl

@@ -25,11 +25,6 @@ pub fits_by : (o : Option Event) (known : List Named) (what : What) → IfSome o
 fits_by None known what h f = tt
 fits_by (Some e) known what h f = (h.0, subst (λ (w : What). WhatFitsNames known w) (sym h.1) f)
 
--- so too of what fits all names
-pub fits_each : (o : Option Event) (what : What) → IfSome o (λ e. (e.client < max_clients) × (e.what ≡ what)) → ((t : List Named) → WhatFitsNames t what) → IfSome o (λ e. (t : List Named) → FitsNames t e)
-fits_each None what h f = tt
-fits_each (Some e) what h f = λ t. (h.0, subst (λ (w : What). WhatFitsNames t w) (sym h.1) (f t))
-
 -- so of some of the names
 pub fits_at : {E : Type 0} (r : Result (Option Event) E) (known : List Named) → IfOk r (λ o. IfSome o (λ e. (t : List Named) → FitsNames t e)) → IfOk r (λ o. IfSome o (λ e. FitsNames known e))
 fits_at (Ok None) known h = tt

@@ -21,7 +21,6 @@ use Rattle.stm_events.specs.declared.errors.DeliverError.{DeliverError}
 use Rattle.stm_events.specs.declared.errors.DeliverError.TheVariants as deliver
 use Rattle.stm_events.specs.declared.errors.FinishError.{FinishError}
 use Rattle.stm_events.specs.declared.errors.FinishError.TheVariants as finish
-use Rattle.stm_events.specs.declared.errors.LateDeclareError.{LateDeclareError}
 use Rattle.stm_events.specs.declared.errors.LateDeclareError.TheVariants as declare
 use Rattle.stm_events.specs.declared.errors.SubmitError.{SubmitError}
 use Rattle.stm_events.specs.declared.errors.SubmitError.TheVariants as submit
@@ -139,12 +138,6 @@ declare_cells_by true false true false h = refl
 declare_cells_by false false true false h = refl
 declare_cells_by full false true true h = cc
 
-declare_some_by : (full taken holds room : Bool) (e : LateDeclareError) → declare_first taken holds false room ≡ Some e → e ≢ declare.CellsFull → declare_first taken holds full room ≡ Some e
-declare_some_by full true holds room e h n = h
-declare_some_by full false false room e h n = h
-declare_some_by full false true false e h n = let q : e ≡ declare.CellsFull = cc in absurd (n q)
-declare_some_by full false true true e h n = cc
-
 pub declare_when_full : (s : Slow) (name : List ℕ) (kind : Ty) (value : Value) → late_declare_refused s false name kind value ≡ None → late_declare_refused s true name kind value ≡ Some declare.HistoryFull
 declare_when_full s name kind value h = declare_full_by (is_some (number_named name s.names)) (may_hold_known s.names kind value) (nat_lt (length s.store) max_cells) h
 
@@ -152,9 +145,6 @@ declare_when_full s name kind value h = declare_full_by (is_some (number_named n
 pub declare_cells_when_full : (s : Slow) (full : Bool) (name : List ℕ) (kind : Ty) (value : Value) → late_declare_refused s false name kind value ≡ Some declare.CellsFull
     → late_declare_refused s full name kind value ≡ Some (cond full declare.HistoryFull declare.CellsFull)
 declare_cells_when_full s full name kind value h = declare_cells_by full (is_some (number_named name s.names)) (may_hold_known s.names kind value) (nat_lt (length s.store) max_cells) h
-
-pub declare_always : (s : Slow) (full : Bool) (name : List ℕ) (kind : Ty) (value : Value) (e : LateDeclareError) → late_declare_refused s false name kind value ≡ Some e → e ≢ declare.CellsFull → late_declare_refused s full name kind value ≡ Some e
-declare_always s full name kind value e h n = declare_some_by full (is_some (number_named name s.names)) (may_hold_known s.names kind value) (nat_lt (length s.store) max_cells) e h n
 
 -- the reasons of a finish of a block that waits, each with what it rests on
 abbrev finish_at : (full new stale blocks over : Bool) → Option FinishError
@@ -180,13 +170,6 @@ finish_cells_by true false false false true h = refl
 finish_cells_by false false false false true h = refl
 finish_cells_by full false false false false h = cc
 
-finish_some_by : (full new stale blocks over : Bool) (e : FinishError) → finish_at false new stale blocks over ≡ Some e → e ≢ finish.CellsFull → finish_at full new stale blocks over ≡ Some e
-finish_some_by full true stale blocks over e h n = h
-finish_some_by full false true blocks over e h n = h
-finish_some_by full false false true over e h n = h
-finish_some_by full false false false true e h n = let q : e ≡ finish.CellsFull = cc in absurd (n q)
-finish_some_by full false false false false e h n = cc
-
 finish_none : (store : List Cell) (o : Option Waiter) → finish_first store false o ≡ None → finish_first store true o ≡ Some finish.HistoryFull
 finish_none store None h = cc
 finish_none store (Some w) h = finish_none_by (is_new w) (not (is_current w)) (blocks_there (verdict_on store w.block)) (overflows store (verdict_on store w.block)) h
@@ -195,19 +178,12 @@ finish_cells : (store : List Cell) (full : Bool) (o : Option Waiter) → finish_
 finish_cells store full None h = cc
 finish_cells store full (Some w) h = finish_cells_by full (is_new w) (not (is_current w)) (blocks_there (verdict_on store w.block)) (overflows store (verdict_on store w.block)) h
 
-finish_some : (store : List Cell) (full : Bool) (o : Option Waiter) (e : FinishError) → finish_first store false o ≡ Some e → e ≢ finish.CellsFull → finish_first store full o ≡ Some e
-finish_some store full None e h n = h
-finish_some store full (Some w) e h n = finish_some_by full (is_new w) (not (is_current w)) (blocks_there (verdict_on store w.block)) (overflows store (verdict_on store w.block)) e h n
-
 pub finish_when_full : (s : Slow) (t : ℕ) → finish_refused s false t ≡ None → finish_refused s true t ≡ Some finish.HistoryFull
 finish_when_full s t h = finish_none s.store (find_waiter t s.waiters) h
 
 -- a full history comes before a full store
 pub cells_when_full : (s : Slow) (full : Bool) (t : ℕ) → finish_refused s false t ≡ Some finish.CellsFull → finish_refused s full t ≡ Some (cond full finish.HistoryFull finish.CellsFull)
 cells_when_full s full t h = finish_cells s.store full (find_waiter t s.waiters) h
-
-pub finish_always : (s : Slow) (full : Bool) (t : ℕ) (e : FinishError) → finish_refused s false t ≡ Some e → e ≢ finish.CellsFull → finish_refused s full t ≡ Some e
-finish_always s full t e h n = finish_some s.store full (find_waiter t s.waiters) e h n
 
 -- ---- a delivery of what the block does on the present store
 -- it is refused only because its block is current

@@ -24,7 +24,7 @@ use Rattle.stm_history.specs.declared.explanation.Explanation.{Explanation}
 use Rattle.stm_history.specs.declared.explanation.Explanation.TheVariants.{Expected, Refused, Unreadable}
 use Rattle.stm_history.specs.Checking.{CheckerState, at_variables, at_cells, at_blocks, at_events, with_table, with_cells, with_blocks, with_name_of, LeadsTo, MayTakeCell}
 use Rattle.stm_history.specs.Expecting.{HasCheckedBlock, IsDueAfter, IsLineOf, IsShortOr}
-use Rattle.stm_history.specs.Explanation.{Explains, ExplainsEvent, ExplainsHead, IsCallDue, IsReadAs, IsSameCall}
+use Rattle.stm_history.specs.Explanation.{Explains, ExplainsEvent, ExplainsHead, IsCallDue, IsSameCall}
 use Rattle.stm_event_lines.specs.Fits.{FitsNames, FitsFormat, FitsVariable, WhatFitsNames}
 use Rattle.stm_history.specs.Judgement.{IsShort}
 use Rattle.stm_event_lines.specs.CheckpointLines.{FitsWaiting, cell_line, checkpoint_format, waiting_line}
@@ -119,9 +119,6 @@ pub explains_due : (start : Start) (history : List Event) (e : Event) (what : Wh
 explains_due start history e what (Expected text) d l = (what, d, l.0, l.1)
 explains_due start history e what (Refused r) d l = absurd l
 explains_due start history e what Unreadable d l = (what, d, l)
-
-pub read_as : (names : List Named) (line : List ℕ) (e : Event) → FitsNames names e → ((d : Event) → FitsNames names d → event_line d ≡ line → Some e ≡ Some d) → IsReadAs names line e
-read_as names line e f h = (f, λ d g l. let s = h d g l in cc)
 
 pub due_explained : {E : Type 0} (r : Result Explanation E) (format : ℕ) (s : Replayer) (e : Event) (what : What) (y : Expectation) → y ≡ Due what → ((S : Start) (H : List Event) → Follows S H s → IsDueAfter S H e y)
     → IfOk r (λ x. (T : List Named) → e.client < max_clients → HasCheckedBlock T what → IsLineOf format T (event e.client what) x)

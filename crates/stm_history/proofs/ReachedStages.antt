@@ -1,5 +1,5 @@
 -- The progress of each stage, and what is reported of it.
-use Rattle.std.proofs.Common.{◌≡◌, ℕ, ◌≤◌, ◌<◌, Bool, true, false, List, [], ◌∷◌, ◌++◌, length, Option, Some, None, refl, sym, ap, ap₂, ◌∙◌, subst, arith, length-append, ◌⊎◌, inl, inr, Result, Ok, Err, IfOk, IfErr, OnOk}
+use Rattle.std.proofs.Common.{◌≡◌, ℕ, ◌≤◌, Bool, true, false, List, [], ◌∷◌, ◌++◌, length, Option, Some, None, refl, sym, ap, ap₂, ◌∙◌, subst, arith, length-append, ◌⊎◌, inl, inr, Result, Ok, Err, IfOk, IfErr, OnOk}
 use Rattle.std.specs.Prelude.{◌≢◌, nat_lt, option_map}
 use Rattle.std.proofs.lemmas.Bool.Decides.{nat_tests}
 use Rattle.std.proofs.lemmas.List.{length-map}
@@ -22,9 +22,8 @@ use Rattle.stm_history.specs.declared.check.Stage.TheVariants.{Running}
 use Rattle.stm_history.specs.declared.fault.HistoryFault.{HistoryFault}
 use Rattle.stm_history.specs.declared.fault.HistoryFault.TheVariants.{BadHeader, BadLine, NoMemory}
 use Rattle.stm_history.specs.declared.replayer.Replayer.{Replayer}
-use Rattle.stm_history.specs.Checking.{CheckerState, at_header, at_variables, at_cells, at_blocks, at_events, with_table, with_blocks, with_cells, IsCheckpointHead, LeadsTo, LeadsToCells, LinesUpTo, MayBeNamed, MayRefuse, strange, with_name_of}
+use Rattle.stm_history.specs.Checking.{CheckerState, at_header, at_variables, at_cells, at_blocks, at_events, with_blocks, with_cells, IsCheckpointHead, LeadsTo, LeadsToCells, LinesUpTo, MayBeNamed, MayRefuse, strange}
 use Rattle.stm_history.specs.Following.{Follows}
-use Rattle.stm_history_text.specs.HistoryText.{block_line}
 use Rattle.stm_history.specs.Judgement.{IsBefore, next_line}
 use Rattle.stm_history.specs.Stages.{CountsWithinLimits, IsSmallStart, IsStage, LeadsToStage}
 use Rattle.stm_history_text.specs.Starts.{Start, delivery_of_block, is_plain_block}
@@ -32,24 +31,9 @@ use Rattle.stm_waiting.specs.declared.waiting.Held.{Held}
 use Rattle.stm_history.proofs.OneReading.{AreMarked, marked_from}
 
 -- ---- the progress with what was read
-pub more_variables : (format n : ℕ) (table : List Declared) → length table < n → with_table format n table ≡ at_variables format n table
-more_variables format n table l = let e : nat_lt (length table) n ≡ true = grind (arith, nat_tests) in rw e refl
-
-pub all_variables : (format n : ℕ) (table : List Declared) → n ≤ length table → with_table format n table ≡ at_events (record { format = format; table = table; checkpoint = None }) []
-all_variables format n table l = let e : nat_lt (length table) n ≡ false = grind (arith, nat_tests) in rw e refl
-
-pub more_blocks : (format waiting : ℕ) (c : CheckpointView) → length c.blocks < waiting → with_blocks format waiting c ≡ at_blocks format waiting c
-more_blocks format waiting c l = let e : nat_lt (length c.blocks) waiting ≡ true = grind (arith, nat_tests) in rw e refl
 
 pub all_blocks : (format waiting : ℕ) (c : CheckpointView) → waiting ≤ length c.blocks → with_blocks format waiting c ≡ at_events (record { format = format; table = []; checkpoint = Some c }) []
 all_blocks format waiting c l = let e : nat_lt (length c.blocks) waiting ≡ false = grind (arith, nat_tests) in rw e refl
-
-pub more_cells : (format next vars waiting : ℕ) (names : List Named) (cells : List Cell) → length cells < vars → with_cells format next vars waiting names cells ≡ at_cells format next vars waiting names cells
-more_cells format next vars waiting names cells l = let e : nat_lt (length cells) vars ≡ true = grind (arith, nat_tests) in rw e refl
-
-pub all_cells : (format next vars waiting : ℕ) (names : List Named) (cells : List Cell) → vars ≤ length cells
-    → with_cells format next vars waiting names cells ≡ with_blocks format waiting (record { store = cells; names = names; next = next; blocks = [] })
-all_cells format next vars waiting names cells l = let e : nat_lt (length cells) vars ≡ false = grind (arith, nat_tests) in rw e refl
 
 -- the stage after the last waiting block
 pub running_stage : (format waiting : ℕ) (c : CheckpointView) (table : List Declared) (r : Replayer) → table ≡ [] → waiting ≤ length c.blocks
@@ -104,9 +88,6 @@ head_refused line format next vars waiting f e i j k never q h =
     let same = checkpoint_header_same format h.0 next h.1 vars h.2 waiting h.3 f h.4 i j k (omega (arith, head.tickets)) (omega (arith, head.vars)) (omega (arith, head.waiting)) (e ∙ sym h.6) in
     never (subst (λ (x : ℕ). IsCheckpointHead x vars waiting) (sym same.1) (subst (λ (x : ℕ). IsCheckpointHead h.1 x waiting) (sym same.2) (subst (λ (x : ℕ). IsCheckpointHead h.1 h.2 x) (sym same.3) head)))
 
-pub head_unread : (line : List ℕ) → ((format next vars waiting : ℕ) → IsCheckpointFormat format → Is32Bit next → Is32Bit vars → Is32Bit waiting → checkpoint_header_line format next vars waiting ≢ line) → (q : CheckerState) → LeadsToCells line q → ⊥
-head_unread line never q h = let head = h.5 in never h.0 h.1 h.2 h.3 h.4 (omega (arith, head.tickets)) (omega (arith, head.vars)) (omega (arith, head.waiting)) h.6
-
 -- ---- a variable of a checkpoint
 -- its name is refused
 pub cell_refused : (format next vars waiting : ℕ) (names : List Named) (cells : List Cell) (name : Option (List ℕ)) (c : Cell) → FitsCell name c → (MayBeNamed format names (length cells) name c.kind → ⊥)
@@ -120,19 +101,6 @@ cell_refused format next vars waiting names cells name c f never q k =
 pub name_refused : (format next vars waiting : ℕ) (names : List Named) (cells : List Cell) (name : Option (List ℕ)) (c : Cell) → FitsCell name c → (MayBeNamed format names (length cells) name c.kind → ⊥)
     → MayRefuse (at_cells format next vars waiting names cells) (cell_line name c) BadHeader
 name_refused format next vars waiting names cells name c f never = inr (inl (refl, cell_refused format next vars waiting names cells name c f never))
-
--- it leads on, with the others
-pub cell_leads : (o : Result Stage HistoryFault) (format next vars waiting : ℕ) (names named : List Named) (cells more : List Cell) (name : Option (List ℕ)) (c : Cell) → FitsCell name c → MayBeNamed format names (length cells) name c.kind
-    → named ≡ with_name_of names (length cells) name c.kind → more ≡ cells ++ c ∷ [] → IfOk o (λ s. IsStage s (with_cells format next vars waiting named more)) → OnOk o (length more ≡ vars → IsStore (plains more))
-    → IfOk o (λ s. LeadsToStage (at_cells format next vars waiting names cells) (cell_line name c) s)
-cell_leads (Ok s) format next vars waiting names named cells more name c f m e l stage store =
-    let long = length-append cells (c ∷ []) in
-    let size = ap (λ (x : List Cell). length x) l in (
-      with_cells format next vars waiting (with_name_of names (length cells) name c.kind) (cells ++ c ∷ []),
-      (name, c, refl, record { fits = f; named = m; store = λ h. subst (λ (x : List Cell). IsStore (plains x)) l (store (omega (arith, long, size, h))) }, refl),
-      subst (λ (x : List Cell). IsStage s (with_cells format next vars waiting (with_name_of names (length cells) name c.kind) x)) l (subst (λ (x : List Named). IsStage s (with_cells format next vars waiting x more)) e stage),
-    )
-cell_leads (Err f) format next vars waiting names named cells more name c fits m e l stage store = tt
 
 no_store : (format next vars waiting : ℕ) (names : List Named) (cells more : List Cell) (name : Option (List ℕ)) (c : Cell) → FitsCell name c → more ≡ cells ++ c ∷ [] → length more ≡ vars
     → (IsStore (plains more) → ⊥) → (q : CheckerState) → LeadsTo (at_cells format next vars waiting names cells) (cell_line name c) q → ⊥
@@ -153,28 +121,7 @@ pub store_refused : (o : Result Stage HistoryFault) (format next vars waiting : 
 store_refused (Ok s) format next vars waiting names cells more name c fits e h = tt
 store_refused (Err f) format next vars waiting names cells more name c fits e h = store_fault format next vars waiting names cells more name c f fits e h
 
-pub cell_unread : (format next vars waiting : ℕ) (names : List Named) (cells : List Cell) (line : List ℕ) → ((name : Option (List ℕ)) (c : Cell) → FitsCell name c → cell_line name c ≢ line)
-    → (q : CheckerState) → LeadsTo (at_cells format next vars waiting names cells) line q → ⊥
-cell_unread format next vars waiting names cells line never q k = never k.0 k.1 (k.3).fits k.2
-
 -- ---- a waiting block
--- what it brought is what was read
-pub delivery_same : (ticket : ℕ) (block : Block) (w : Option KeptCause) (label : List ℕ) (d : Option Delivered) → delivery_of_block (checkpoint_block ticket block d w label) ≡ d
-delivery_same ticket block w label None = refl
-delivery_same ticket block w label (Some d) = refl
-
-pub block_line_same : (ticket : ℕ) (block : Block) (w : Option KeptCause) (label : List ℕ) (d : Option Delivered) → block_line (checkpoint_block ticket block d w label) ≡ waiting_line ticket block.text w label d
-block_line_same ticket block w label d = ap (waiting_line ticket block.text w label) (delivery_same ticket block w label d)
-
-pub block_fits : (names : List Named) (ticket : ℕ) (block : Block) (w : Option KeptCause) (label : List ℕ) (d : Option Delivered) → FitsWaiting names ticket block w label d → FitsWaiting names ticket block w label (delivery_of_block (checkpoint_block ticket block d w label))
-block_fits names ticket block w label d f = subst (λ (x : Option Delivered). FitsWaiting names ticket block w label x) (sym (delivery_same ticket block w label d)) f
-
--- a new block that may be added isn't stale
-pub block_unread : (format waiting : ℕ) (c : CheckpointView) (line : List ℕ) → ((ticket : ℕ) (block : Block) (w : Option KeptCause) (label : List ℕ) (d : Option Delivered) → FitsWaiting c.names ticket block w label d → waiting_line ticket block.text w label d ≢ line)
-    → (q : CheckerState) → LeadsTo (at_blocks format waiting c) line q → ⊥
-block_unread format waiting c line never q k =
-    let b = k.0 in
-    never b.ticket b.waiting.block b.cause b.label (delivery_of_block b) (k.2).0 k.1
 
 last_marked : (bs : List CheckpointBlock) (b : CheckpointBlock) → AreMarked (bs ++ b ∷ []) → b.waiting.held ≡ None → b.stale ≡ false
 last_marked [] b m = m.0

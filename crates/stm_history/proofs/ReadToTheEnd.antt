@@ -1,5 +1,5 @@
 -- What was read to the end.
-use Rattle.std.proofs.Common.{◌≡◌, ◌≢◌, ℕ, List, [], ◌∷◌, ◌++◌, Option, Some, None, IfSome, arith, length, refl, sym, ap, subst, ◌∙◌, inl, inr}
+use Rattle.std.proofs.Common.{◌≡◌, ℕ, List, [], ◌∷◌, ◌++◌, Option, Some, None, IfSome, arith, length, refl, sym, ap, subst, ◌∙◌, inl, inr}
 use Rattle.stm_terms.specs.declared.kinds.Ty.{Ty}
 use Rattle.stm_terms.specs.declared.values.Value.{Value}
 use Rattle.stm_store.specs.Cells.{Covers, plains}
@@ -14,14 +14,13 @@ use Rattle.stm_events.specs.SlowDesk.{Slow, after, state_from}
 use Rattle.stm_machine.specs.declared.checkpoint.CheckpointBlock.{CheckpointBlock}
 use Rattle.stm_machine.specs.Checkpoints.{CheckpointView, MayStart, start_of, started_by}
 use Rattle.stm_machine.specs.Machine.{Parts, IsAt}
-use Rattle.stm_event_lines.specs.Lines.{declaring_format, latest_format, rule_of}
+use Rattle.stm_event_lines.specs.Lines.{rule_of}
 use Rattle.stm_history.specs.declared.check.Stage.TheVariants.{Running}
 use Rattle.stm_history.specs.declared.replayer.Replayer.{Replayer}
-use Rattle.stm_history.specs.declared.loading.LoadFault.TheVariants.{OldFormat}
 use Rattle.stm_history.specs.Checking.{CheckerState, at_events, LinesUpTo}
 use Rattle.stm_history.specs.Following.{Follows}
 use Rattle.stm_history.specs.Judgement.{AreEvents, FitBlocks, IsStart}
-use Rattle.stm_history.specs.Loading.{IsWholeHistory, ReportsLoadFault}
+use Rattle.stm_history.specs.Loading.{IsWholeHistory}
 use Rattle.stm_history.specs.Stages.{Reached}
 use Rattle.stm_history_text.specs.Starts.{AreOfText, BlocksAreOfText, IsLatest, Start, first_state}
 use Rattle.stm_event_lines.proofs.CheckedBlocks.{checked_are_well_typed}
@@ -123,11 +122,3 @@ text_by format table (Some c) s = of_text c.names c.blocks ((s.1).fits).blocks
 
 pub blocks_of_text : (start : Start) → IsStart start → IfSome start.checkpoint BlocksAreOfText
 blocks_of_text start s = text_by start.format start.table start.checkpoint s
-
--- an earlier format is that of a table
-pub old_history : (format : ℕ) (table : List Declared) (c : Option CheckpointView) (r : Replayer) (whole : ℕ) (line taken : List ℕ) → Reached (Running format table c r) whole line taken → line ≡ [] → format ≢ latest_format → format ≢ declaring_format → c ≡ None
-    → ReportsLoadFault (OldFormat format) taken
-old_history format table c r whole line taken h none other later without =
-    let k = read_history format table c r whole line taken h none in
-    let is : IsWholeHistory (record { format = format; table = table; checkpoint = None }) taken k.history = subst (λ (o : Option CheckpointView). IsWholeHistory (record { format = format; table = table; checkpoint = o }) taken k.history) without k.whole in
-    ((is.start).0, other, later, table, k.history, is)

@@ -18,10 +18,9 @@ use Rattle.stm_event_lines.specs.Lines.{IsFormat, event_line, header_line, varia
 use Rattle.stm_event_lines.proofs.Checkpoints.{cell_one_line, checkpoint_header_new, checkpoint_header_one_line, checkpoint_header_same, waiting_one_line}
 use Rattle.stm_event_lines.proofs.ReadsBack.{event_one_line, header_one_line, variable_one_line, event_same, header_same, variable_same}
 use Rattle.stm_history_text.specs.HistoryText.{block_line, block_lines, cell_lines, cells_text, checkpoint_text, history_text, start_text, text_before, variable_lines}
-use Rattle.stm_history.specs.Judgement.{IsShort, max_line, MayDeclare, AreVariablesFrom, IsBefore, IsReadable, IsStart, ReportsFault, IsHistory, numbers_from}
+use Rattle.stm_history.specs.Judgement.{IsShort, max_line, MayDeclare, AreVariablesFrom, IsBefore, IsReadable, IsStart, ReportsFault}
 use Rattle.stm_history.specs.declared.fault.HistoryFault.{HistoryFault}
 use Rattle.stm_history.specs.declared.fault.HistoryFault.TheVariants.{ReadFault, BadHeader, NoMemory}
-use Rattle.stm_history.specs.declared.fault.Legal.{Legal}
 use Rattle.stm_history.specs.declared.check.Stage.{Stage}
 use Rattle.stm_history.specs.declared.check.Stage.TheVariants.{Before, Declaring, AtCells, AtBlocks}
 use Rattle.stm_history.specs.Checking.{CheckerState, at_header, at_variables, at_cells, at_blocks, at_events, with_table, with_cells, with_blocks, with_name_of, IsCheckpointHead, LeadsTo, LeadsNowhere, LinesUpTo, MayTakeCell, NoLineNext, NoNext, NoFeed, IsStrange, strange, MayRefuse, HasTaken, IsFaultAt, StopsAt}
@@ -306,9 +305,6 @@ NoNext-end (at_events start history) line h = λ g fits may short after e. no_fe
 
 -- ---- a byte more
 
-pub HasTaken-start : HasTaken at_header [] []
-HasTaken-start = record { whole = []; taken_is = refl; lines = refl; one_line = tt; short = omega arith }
-
 pub HasTaken-feed : (r t : CheckerState) (line taken : List ℕ) → HasTaken r line taken → LeadsTo r line t → HasTaken t [] (taken ++ 10 ∷ [])
 HasTaken-feed r t line taken h k = record {
   whole = h.whole ++ (line ++ 10 ∷ []);
@@ -370,11 +366,6 @@ ReportsFault-long r line taken part more h k l =
 pub ReportsFault-end : (r : CheckerState) (line taken : List ℕ) → HasTaken r line taken → (0 < length line ⊎ (strange r ≡ BadHeader)) → ReportsFault (strange r) taken
 ReportsFault-end r line taken h some = subst (ReportsFault (strange r)) (sym h.taken_is) (ReportsFault-strange r h.whole line h.lines (NoNext-end r line h.one_line) some)
 
-pub IsHistory-end : (start : Start) (history : List Event) (line taken : List ℕ) (n : Legal) → HasTaken (at_events start history) line taken → line ≡ [] → n ≡ numbers_from start history → IsHistory taken n
-IsHistory-end start history line taken n h e k =
-    let s = h.lines in
-    (start, history, record { text = h.taken_is ∙ ap (λ x. h.whole ++ x) e ∙ ap (λ x. x ++ []) s.0; start = s.1; events = s.2; legal = s.3 }, k)
-
 -- ---- where a check stops
 
 -- the bytes after what was taken go on with the line that has begun, and the fault is at this line
@@ -432,13 +423,6 @@ refused_stops s s' whole line line' taken more e es el h r =
     let held = r.held in
     stops_at r.progress whole line taken (10 ∷ more) e held r.counts
     (refused_at r.progress line more e held.one_line held.short (subst (λ (l : List ℕ). MayRefuse r.progress l e) el (h r.progress stage)))
-
--- how many bytes were taken
-pub counts_taken : (s : Stage) (whole : ℕ) (line taken : List ℕ) → Reached s whole line taken → whole + length line ≡ length taken
-counts_taken s whole line taken r =
-    let held = r.held in
-    let e = ap length held.taken_is ∙ length-append held.whole line in
-    omega (arith, r.counts, e)
 
 pub fed_byte : (s s' t : Stage) (whole whole' : ℕ) (line line' left taken : List ℕ) (b : ℕ) → b ≡ 10 → s' ≡ s → line' ≡ line → left ≡ [] → whole' ≡ whole + (length line + 1)
     → ((p : CheckerState) → IsStage s' p → LeadsToStage p line' t) → Reached s whole line taken → Reached t whole' left (taken ++ b ∷ [])

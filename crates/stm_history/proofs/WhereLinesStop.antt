@@ -1,29 +1,19 @@
 -- What is reported where lines stop being accepted.
-use Rattle.std.proofs.Common.{◌≡◌, ◌≢◌, ℕ, ◌++◌, ◌∷◌, List, [], take, drop, refl, sym, ap, ◌∙◌, subst, append-nil, ◌⊎◌, inl, inr}
+use Rattle.std.proofs.Common.{◌≡◌, ◌≢◌, ℕ, ◌++◌, ◌∷◌, List, take, drop, refl, sym, ap, ◌∙◌, subst, append-nil, ◌⊎◌, inl, inr}
 use Rattle.std.proofs.lemmas.List.{take-append-drop}
-use Rattle.stm_history.specs.declared.check.Stage.{Stage}
 use Rattle.stm_history.specs.declared.explanation.Explanation.{Explanation}
 use Rattle.stm_history.specs.declared.fault.HistoryFault.{HistoryFault}
 use Rattle.stm_history.specs.declared.fault.HistoryFault.TheVariants.{NoMemory, ReadFault}
-use Rattle.stm_history.specs.Checking.{CheckerState, at_header, at_variables, at_cells, at_blocks, at_events, Forbids, ForbidsNext, IsFaultAt, LinesUpTo, NoFeed, NoNext, StopsAt, strange}
-use Rattle.stm_history.specs.Explanation.{Explains, IsAfterLine, ReportsWhy, line_after}
+use Rattle.stm_history.specs.Checking.{CheckerState, at_header, at_variables, at_cells, at_blocks, at_events, Forbids, ForbidsNext, IsFaultAt, NoFeed, NoNext, StopsAt, strange}
+use Rattle.stm_history.specs.Explanation.{IsAfterLine, ReportsWhy}
 use Rattle.stm_event_lines.specs.Lines.{event_line}
-use Rattle.stm_history.specs.Stages.{IsStage, Reached}
 use Rattle.stm_history_text.specs.Starts.{names_after}
-use Rattle.stm_history.specs.Stopping.{IsAfter, IsReportedAfter}
+use Rattle.stm_history.specs.Stopping.{IsReportedAfter}
 use Rattle.stm_history.proofs.CutsAtLineFeeds.{cut_unique, no_feed_at_end}
 use Rattle.stm_history.proofs.OneProgress.{one_progress}
 use Rattle.stm_history.proofs.RefusedLines.{event_no_feed}
 
 -- ---- after whole lines
-pub after_all : (front line : List ℕ) (s : Stage) (whole : ℕ) → Reached s whole line front → line ≡ [] → IsAfter front s
-after_all front line s whole h e =
-    let held = h.held in
-    let same : front ≡ held.whole = held.taken_is ∙ ap (λ (x : List ℕ). held.whole ++ x) e ∙ append-nil held.whole in
-    record { progress = h.progress; stage = h.stage; lines = subst (LinesUpTo h.progress) (sym same) held.lines }
-
-pub reported_after : (front line : List ℕ) (s : Stage) (number : ℕ) (x : Explanation) → IsAfter front s → ((p : CheckerState) → IsStage s p → number ≡ line_after p) → ((p : CheckerState) → IsStage s p → Explains p line x) → IsReportedAfter front line number x
-reported_after front line s number x h n e = record { progress = h.progress; lines = h.lines; counted = n h.progress h.stage; why = e h.progress h.stage }
 
 -- ---- one line
 pub same_line : (xs a ys b : List ℕ) → NoFeed xs → NoFeed ys → IsAfterLine a → IsAfterLine b → xs ++ a ≡ ys ++ b → xs ≡ ys
