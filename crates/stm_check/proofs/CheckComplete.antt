@@ -9,9 +9,9 @@ use Rattle.stm_terms.specs.declared.expr.Op.TheVariants.{Mul, Add, Sub, Eq, Lt, 
 use Rattle.stm_terms.specs.Ast.{Term, lit, local, global, bin, Act, return, read, write, make, retry, throw, if_else, or_else, bind, let_in, seq, catch}
 use Rattle.stm_terms.specs.ParsedAst as raw
 use Rattle.stm_terms.specs.Typing.{int_ty, bool_ty, unit_ty, var_ty, deref_ty, same_ty, literal_type, op_type, operands, expr_type, ActionType, Gives, Any, join_types, action_type}
-use Rattle.stm_store.specs.Naming.{Named, number_named, known_kinds}
+use Rattle.stm_store.specs.Naming.{Named, number_named, known_kinds, with_kind, variable_named}
 use Rattle.stm_check.specs.Scopes.{Locals, innermost, types_of, names_of}
-use Rattle.stm_check.specs.CheckFunction.{with_kind, variable, wanted, given, as_wanted, wanted_right, on_ok, unless, on_some, on_type, declared_as, resolved, checked_expr, checked}
+use Rattle.stm_check.specs.CheckFunction.{wanted, given, as_wanted, wanted_right, on_ok, unless, on_some, on_type, declared_as, resolved, checked_expr, checked}
 use Rattle.stm_check.specs.Resolving.{number_in, IsNamed, IsTerm, IsAct}
 use Rattle.stm_check.specs.declared.fault.TypeFault.{TypeFault}
 use Rattle.stm_check.proofs.SameTypes.{both, ty_same, ty_refl}
@@ -75,18 +75,18 @@ module _ (known : List Named) (text : List ℕ) where
       let r : slice_get (types_of ls) i ≡ Some m.0.1 = subst (λ (j : ℕ). slice_get (types_of ls) j ≡ Some m.0.1) m.2 q in
       m.1 ∙ ap₂ (λ (a : ℕ) (b : Ty). let w : Option (ℕ × Ty) = Some (a, b) in w) m.2 (same_some m.0.1 t (sym r ∙ p))
 
-  variable_found : (name : List ℕ) (i : ℕ) (t : Ty) → number_named name known ≡ Some i → option_map var_ty (known_kinds known i) ≡ Some t → (u : Ty) × (variable known name ≡ Some (i, u)) × (var_ty u ≡ t)
+  variable_found : (name : List ℕ) (i : ℕ) (t : Ty) → number_named name known ≡ Some i → option_map var_ty (known_kinds known i) ≡ Some t → (u : Ty) × (variable_named name known ≡ Some (i, u)) × (var_ty u ≡ t)
   variable_found name i t h p =
       let m = mapped var_ty (known_kinds known i) t p in
       (m.0, ap (with_kind (known_kinds known)) h ∙ ap (option_map (λ u. (i, u))) m.1, m.2)
 
-  name_checked : (at : ℕ) (ls : Locals) (name : List ℕ) (x : Term) (t : Ty) → IsNamed known text (names_of ls) name x → expr_type (known_kinds known) (types_of ls) x ≡ Some t → resolved at (innermost name ls) (variable known name) ≡ Ok (x, t)
+  name_checked : (at : ℕ) (ls : Locals) (name : List ℕ) (x : Term) (t : Ty) → IsNamed known text (names_of ls) name x → expr_type (known_kinds known) (types_of ls) x ≡ Some t → resolved at (innermost name ls) (variable_named name known) ≡ Ok (x, t)
   name_checked at ls name (local i) t h p =
-      ap (λ (o : Option (ℕ × Ty)). resolved at o (variable known name)) (local_found ls name i t h p)
+      ap (λ (o : Option (ℕ × Ty)). resolved at o (variable_named name known)) (local_found ls name i t h p)
   name_checked at ls name (global i) t h p =
       let none : innermost name ls ≡ None = no_local (innermost name ls) (sym (numbered name ls) ∙ h.0) in
       let v = variable_found name i t h.1 p in
-      ap (λ (o : Option (ℕ × Ty)). resolved at o (variable known name)) none
+      ap (λ (o : Option (ℕ × Ty)). resolved at o (variable_named name known)) none
       ∙ ap (declared_as at) v.1
       ∙ ap (λ (u : Ty). let w : Result (Term × Ty) TypeFault = Ok (global i, u) in w) v.2
   name_checked at ls name x t h p = absurd h

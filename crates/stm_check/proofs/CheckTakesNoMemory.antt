@@ -5,9 +5,9 @@ use Rattle.stm_terms.specs.declared.kinds.Ty.{Ty}
 use Rattle.stm_terms.specs.Ast.{Act}
 use Rattle.stm_terms.specs.ParsedAst as raw
 use Rattle.stm_terms.specs.Typing.{int_ty, bool_ty, deref_ty, same_ty, ActionType, Gives, Any, join_types}
-use Rattle.stm_store.specs.Naming.{Named}
+use Rattle.stm_store.specs.Naming.{Named, variable_named}
 use Rattle.stm_check.specs.Scopes.{Locals, innermost}
-use Rattle.stm_check.specs.CheckFunction.{variable, wanted, as_wanted, wanted_right, on_ok, unless, on_some, on_type, resolved, checked_expr, checked}
+use Rattle.stm_check.specs.CheckFunction.{wanted, as_wanted, wanted_right, on_ok, unless, on_some, on_type, resolved, checked_expr, checked}
 use Rattle.stm_check.specs.Laws.{CheckNeverSaysNoMemory}
 use Rattle.stm_check.specs.declared.fault.TypeFault.{TypeFault}
 use Rattle.stm_check.specs.declared.fault.TypeFault.TheVariants.{Unknown, Mismatch, NotAVariable, Untyped, TypeTooDeep, NoMemory}
@@ -57,7 +57,7 @@ module _ (known : List Named) (text : List ℕ) where
   expr_not_memory (raw.truth b at) ls = tt
   expr_not_memory (raw.unit at) ls = tt
   expr_not_memory (raw.name span) ls =
-      name_not_memory span.start (innermost (raw.text_at text span) ls) (variable known (raw.text_at text span))
+      name_not_memory span.start (innermost (raw.text_at text span) ls) (variable_named (raw.text_at text span) known)
   expr_not_memory (raw.bin op a b) ls =
       ok_not_memory (checked_expr known text ls a) _ (expr_not_memory a ls) (λ x. unless_not_memory (as_wanted (wanted op) x.1) (Mismatch (raw.place a)) _ (mismatch (raw.place a))
       (ok_not_memory (checked_expr known text ls b) _ (expr_not_memory b ls) (λ y. unless_not_memory (same_ty y.1 (wanted_right (wanted op) x.1)) (Mismatch (raw.place b)) _ (mismatch (raw.place b)) tt)))

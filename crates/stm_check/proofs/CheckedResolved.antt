@@ -6,9 +6,9 @@ use Rattle.stm_terms.specs.declared.kinds.Ty.{Ty}
 use Rattle.stm_terms.specs.Ast.{Term, bin, Act, write, if_else, or_else, bind, let_in, seq, catch}
 use Rattle.stm_terms.specs.ParsedAst as raw
 use Rattle.stm_terms.specs.Typing.{TypeEnv, int_ty, bool_ty, unit_ty, deref_ty, same_ty, ActionType, Gives, join_types}
-use Rattle.stm_store.specs.Naming.{Named, number_named, known_kinds}
+use Rattle.stm_store.specs.Naming.{Named, number_named, known_kinds, with_kind, variable_named}
 use Rattle.stm_check.specs.Scopes.{Locals, innermost, names_of}
-use Rattle.stm_check.specs.CheckFunction.{with_kind, variable, wanted, given, as_wanted, wanted_right, declared_as, resolved, checked_expr, checked}
+use Rattle.stm_check.specs.CheckFunction.{wanted, given, as_wanted, wanted_right, declared_as, resolved, checked_expr, checked}
 use Rattle.stm_check.specs.Resolving.{number_in, IsNamed, IsTerm, IsAct}
 use Rattle.stm_check.proofs.CheckedTyped.{ok_then, unless_then, some_then, type_then}
 
@@ -41,14 +41,14 @@ module _ (known : List Named) (text : List ℕ) where
   abbrev NamedAct : List (List ℕ) → raw.RawAct → Act × ActionType → Type 0
   NamedAct ns a x = IsAct known text ns a x.0
 
-  declared_named : (at : ℕ) (ns : List (List ℕ)) (name : List ℕ) (o : Option (ℕ × Ty)) → number_in name ns ≡ None → variable known name ≡ o → IfOk (declared_as at o) (λ x. IsNamed known text ns name x.0)
+  declared_named : (at : ℕ) (ns : List (List ℕ)) (name : List ℕ) (o : Option (ℕ × Ty)) → number_in name ns ≡ None → variable_named name known ≡ o → IfOk (declared_as at o) (λ x. IsNamed known text ns name x.0)
   declared_named at ns name (Some v) h e = (h, has_number (known_kinds known) (number_named name known) v e)
   declared_named at ns name None h e = tt
 
-  name_named : (at : ℕ) (ls : Locals) (name : List ℕ) (o : Option (ℕ × Ty)) → innermost name ls ≡ o → IfOk (resolved at o (variable known name)) (λ x. IsNamed known text (names_of ls) name x.0)
+  name_named : (at : ℕ) (ls : Locals) (name : List ℕ) (o : Option (ℕ × Ty)) → innermost name ls ≡ o → IfOk (resolved at o (variable_named name known)) (λ x. IsNamed known text (names_of ls) name x.0)
   name_named at ls name (Some l) e = numbered name ls ∙ ap (option_map (λ v. v.0)) e
   name_named at ls name None e =
-      declared_named at (names_of ls) name (variable known name) (numbered name ls ∙ ap (option_map (λ v. v.0)) e) refl
+      declared_named at (names_of ls) name (variable_named name known) (numbered name ls ∙ ap (option_map (λ v. v.0)) e) refl
 
   pub expr_named : (e : raw.RawTerm) (ls : Locals) → IfOk (checked_expr known text ls e) (λ x. IsTerm known text (names_of ls) e x.0)
   expr_named (raw.int n at) ls = refl

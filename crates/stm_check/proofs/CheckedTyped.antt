@@ -9,9 +9,9 @@ use Rattle.stm_terms.specs.Ast.{Term, bin, Act, return, read, write, make, throw
 use Rattle.stm_terms.specs.ParsedAst as raw
 use Rattle.stm_terms.specs.Typing.{TypeEnv, int_ty, bool_ty, unit_ty, var_ty, deref_ty, deref_at, same_ty, op_type, expr_type, ActionType, Gives, Any, join_types, when, action_type}
 use Rattle.stm_check.proofs.SameTypes.{ty_same, ty_refl}
-use Rattle.stm_store.specs.Naming.{Named, number_named, known_kinds}
+use Rattle.stm_store.specs.Naming.{Named, number_named, known_kinds, with_kind, variable_named}
 use Rattle.stm_check.specs.Scopes.{Locals, innermost, types_of}
-use Rattle.stm_check.specs.CheckFunction.{with_kind, variable, wanted, given, as_wanted, wanted_right, on_ok, unless, on_some, on_type, declared_as, resolved, checked_expr, checked}
+use Rattle.stm_check.specs.CheckFunction.{wanted, given, as_wanted, wanted_right, on_ok, unless, on_some, on_type, declared_as, resolved, checked_expr, checked}
 use Rattle.stm_check.specs.declared.fault.TypeFault.{TypeFault}
 
 pub ok_then : {A B : Type 0} (o : Result A TypeFault) (go : A → Result B TypeFault) (Q : A → Type 0) (P : B → Type 0) → IfOk o Q → ((x : A) → Q x → IfOk (go x) P) → IfOk (on_ok o go) P
@@ -112,8 +112,11 @@ number_kind : (kinds : TypeEnv) (o : Option ℕ) (v : ℕ × Ty) → with_kind k
 number_kind kinds (Some i) v e = kind_there kinds i (kinds i) v refl e
 number_kind kinds None v e = absurd (cc)
 
-pub variable_kind : (known : List Named) (name : List ℕ) (v : ℕ × Ty) → variable known name ≡ Some v → known_kinds known v.0 ≡ Some v.1
+pub variable_kind : (known : List Named) (name : List ℕ) (v : ℕ × Ty) → variable_named name known ≡ Some v → known_kinds known v.0 ≡ Some v.1
 variable_kind known name v e = number_kind (known_kinds known) (number_named name known) v e
+
+pub kind_found : (known : List Named) (name : List ℕ) (v : ℕ × Ty) → Some v ≡ variable_named name known → known_kinds known v.0 ≡ Some v.1
+kind_found known name v e = variable_kind known name v (sym e)
 
 module _ (known : List Named) (text : List ℕ) where
   abbrev TypedExpr : Locals → Term × Ty → Type 0
@@ -122,13 +125,13 @@ module _ (known : List Named) (text : List ℕ) where
   abbrev TypedAct : Locals → Act × ActionType → Type 0
   TypedAct ls x = action_type (known_kinds known) (types_of ls) x.0 ≡ Some x.1
 
-  declared_typed : (at : ℕ) (ls : Locals) (name : List ℕ) (o : Option (ℕ × Ty)) → variable known name ≡ o → IfOk (declared_as at o) (λ x. expr_type (known_kinds known) (types_of ls) x.0 ≡ Some x.1)
+  declared_typed : (at : ℕ) (ls : Locals) (name : List ℕ) (o : Option (ℕ × Ty)) → variable_named name known ≡ o → IfOk (declared_as at o) (λ x. expr_type (known_kinds known) (types_of ls) x.0 ≡ Some x.1)
   declared_typed at ls name (Some v) e = ap (option_map var_ty) (variable_kind known name v e)
   declared_typed at ls name None e = tt
 
-  name_typed : (at : ℕ) (ls : Locals) (name : List ℕ) (o : Option (ℕ × Ty)) → innermost name ls ≡ o → IfOk (resolved at o (variable known name)) (λ x. expr_type (known_kinds known) (types_of ls) x.0 ≡ Some x.1)
+  name_typed : (at : ℕ) (ls : Locals) (name : List ℕ) (o : Option (ℕ × Ty)) → innermost name ls ≡ o → IfOk (resolved at o (variable_named name known)) (λ x. expr_type (known_kinds known) (types_of ls) x.0 ≡ Some x.1)
   name_typed at ls name (Some l) e = local_type name ls l e
-  name_typed at ls name None e = declared_typed at ls name (variable known name) refl
+  name_typed at ls name None e = declared_typed at ls name (variable_named name known) refl
 
   pub expr_typed : (e : raw.RawTerm) (ls : Locals) → IfOk (checked_expr known text ls e) (λ x. expr_type (known_kinds known) (types_of ls) x.0 ≡ Some x.1)
   expr_typed (raw.int n at) ls = refl

@@ -5,10 +5,10 @@ use Rattle.stm_terms.specs.declared.kinds.Ty.{Ty}
 use Rattle.stm_terms.specs.Ast.{Term, lit, local, global, bin, Act, return, read, write, make, retry, throw, if_else, or_else, bind, let_in, seq, catch}
 use Rattle.stm_terms.specs.ParsedAst as raw
 use Rattle.stm_terms.specs.Typing.{TypeEnv, int_ty, bool_ty, var_ty, deref_ty, same_ty, expr_type, ActionType, Gives, Any, action_type, named_in, named, record_use_as, record_use, record_uses, kinds_in}
-use Rattle.stm_store.specs.Naming.{Named, known_kinds, number_named}
+use Rattle.stm_store.specs.Naming.{Named, known_kinds, number_named, with_kind, variable_named}
 use Rattle.stm_store.proofs.Naming.{number_stays, known_stay}
 use Rattle.stm_check.specs.Scopes.{Locals, innermost, types_of}
-use Rattle.stm_check.specs.CheckFunction.{with_kind, variable, wanted, as_wanted, wanted_right, on_ok, unless, on_some, on_type, declared_as, resolved, checked_expr, checked}
+use Rattle.stm_check.specs.CheckFunction.{wanted, as_wanted, wanted_right, on_ok, unless, on_some, on_type, declared_as, resolved, checked_expr, checked}
 use Rattle.stm_check.specs.Laws.{IsUnknown, LaterNamesChangeUnknown, CheckedStay}
 use Rattle.stm_check.specs.declared.fault.TypeFault.{TypeFault}
 use Rattle.stm_check.specs.declared.fault.TypeFault.TheVariants.{Unknown}
@@ -46,18 +46,18 @@ module _ (few more : List Named) where
   kind_stays i (Some t) v h e = ap (option_map (λ u. (i, u))) (known_stay few more i t h) ∙ e
   kind_stays i None v h e = absurd (cc)
 
-  variable_by : (name : List ℕ) (o : Option ℕ) (v : ℕ × Ty) → number_named name few ≡ o → with_kind (known_kinds few) o ≡ Some v → variable (few ++ more) name ≡ Some v
+  variable_by : (name : List ℕ) (o : Option ℕ) (v : ℕ × Ty) → number_named name few ≡ o → with_kind (known_kinds few) o ≡ Some v → variable_named name (few ++ more) ≡ Some v
   variable_by name (Some i) v h e =
       ap (with_kind (known_kinds (few ++ more))) (number_stays name few more i h) ∙ kind_stays i (known_kinds few i) v refl e
   variable_by name None v h e = absurd (cc)
 
-  declared_stays : (at : ℕ) (name : List ℕ) (o : Option (ℕ × Ty)) → variable few name ≡ o → Stays (declared_as at o) (declared_as at (variable (few ++ more) name))
+  declared_stays : (at : ℕ) (name : List ℕ) (o : Option (ℕ × Ty)) → variable_named name few ≡ o → Stays (declared_as at o) (declared_as at (variable_named name (few ++ more)))
   declared_stays at name (Some v) h = inl (ap (declared_as at) (sym (variable_by name (number_named name few) v refl h)))
   declared_stays at name None h = inr tt
 
-  name_stays : (at : ℕ) (name : List ℕ) (l : Option (ℕ × Ty)) → Stays (resolved at l (variable few name)) (resolved at l (variable (few ++ more) name))
+  name_stays : (at : ℕ) (name : List ℕ) (l : Option (ℕ × Ty)) → Stays (resolved at l (variable_named name few)) (resolved at l (variable_named name (few ++ more)))
   name_stays at name (Some v) = inl refl
-  name_stays at name None = declared_stays at name (variable few name) refl
+  name_stays at name None = declared_stays at name (variable_named name few) refl
 
   module _ (text : List ℕ) where
     expr_stays : (e : raw.RawTerm) (ls : Locals) → Stays (checked_expr few text ls e) (checked_expr (few ++ more) text ls e)

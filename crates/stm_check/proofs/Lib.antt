@@ -14,5 +14,4 @@ pub mod Strengthening
 pub mod TypedBlockInvariant
 pub mod TypingLaws
 pub mod UsesApart
-pub mod Variables
 pub mod Weakening

@@ -1,5 +1,5 @@
 -- The check of a parsed block: the tree with its names resolved and its type, or the first fault from left to right.
-use Rattle.std.specs.Prelude.{ℕ, Bool, true, List, ◌∷◌, Option, Some, None, Result, Ok, Err, option_map, nat_le, if◌then◌else◌}
+use Rattle.std.specs.Prelude.{ℕ, Bool, true, List, ◌∷◌, Option, Some, None, Result, Ok, Err, nat_le, if◌then◌else◌}
 use Rattle.stm_terms.specs.declared.expr.Op.{Op}
 use Rattle.stm_terms.specs.declared.expr.Op.TheVariants.{Mul, Add, Sub, Eq, Lt, Le, And, Or}
 use Rattle.stm_terms.specs.declared.kinds.Ty.{Ty}
@@ -7,8 +7,8 @@ use Rattle.stm_terms.specs.declared.values.Value.TheVariants as value
 use Rattle.stm_terms.specs.Ast.{Term, lit, local, global, bin, Act, return, read, write, make, retry, throw, if_else, or_else, bind, let_in, seq, catch}
 use Rattle.stm_terms.specs.Limits.{most_refs}
 use Rattle.stm_terms.specs.ParsedAst as raw
-use Rattle.stm_terms.specs.Typing.{TypeEnv, int_ty, bool_ty, unit_ty, var_ty, deref_ty, same_ty, ActionType, Gives, Any, join_types}
-use Rattle.stm_store.specs.Naming.{Named, known_kinds, number_named}
+use Rattle.stm_terms.specs.Typing.{int_ty, bool_ty, unit_ty, var_ty, deref_ty, same_ty, ActionType, Gives, Any, join_types}
+use Rattle.stm_store.specs.Naming.{Named, variable_named}
 use Rattle.stm_check.specs.Scopes.{Locals, innermost}
 use Rattle.stm_check.specs.declared.fault.TypeFault.{TypeFault}
 use Rattle.stm_check.specs.declared.fault.TypeFault.TheVariants.{Unknown, Mismatch, NotAVariable, Untyped, TypeTooDeep}
@@ -64,15 +64,6 @@ abbrev pub on_type : {B : Type 0} → ActionType → TypeFault → (Ty → Resul
 on_type (Gives t) fault go = go t
 on_type Any fault go = Err fault
 
--- a variable by its number, if it has one, with the type of its cell
-abbrev pub with_kind : TypeEnv → Option ℕ → Option (ℕ × Ty)
-with_kind kinds (Some i) = option_map (λ t. (i, t)) (kinds i)
-with_kind kinds None = None
-
--- the declared variable of a name: its number, and the type of its cell
-abbrev pub variable : List Named → List ℕ → Option (ℕ × Ty)
-variable known name = with_kind (known_kinds known) (number_named name known)
-
 -- a name that is no local is a reference to a declared variable; a name of neither is unknown
 abbrev pub declared_as : ℕ → Option (ℕ × Ty) → Result (Term × Ty) TypeFault
 declared_as at (Some v) = Ok (global v.0, var_ty v.1)
@@ -90,7 +81,7 @@ module _ (known : List Named) (text : List ℕ) where
   checked_expr ls (raw.truth b at) = Ok (lit (value.Bool b), bool_ty)
   checked_expr ls (raw.unit at) = Ok (lit value.Unit, unit_ty)
   checked_expr ls (raw.name span) =
-      resolved span.start (innermost (raw.text_at text span) ls) (variable known (raw.text_at text span))
+      resolved span.start (innermost (raw.text_at text span) ls) (variable_named (raw.text_at text span) known)
   checked_expr ls (raw.bin op a b) =
       on_ok (checked_expr ls a) (λ x. unless (as_wanted (wanted op) x.1) (Mismatch (raw.place a))
       (on_ok (checked_expr ls b) (λ y. unless (same_ty y.1 (wanted_right (wanted op) x.1)) (Mismatch (raw.place b))

@@ -9,7 +9,7 @@ ghost use Rattle.stm_check.specs.CheckContext.{CanLookUp, ChecksExpr};
 
 use crate::checker::Checker;
 use crate::fault::TypeFault;
-use crate::scope::{find_local, find_variable};
+use crate::scope::find_local;
 use crate::types::{BOOL, INT, UNIT, as_wanted, given, reference_to, same, wanted};
 use crate::uses::record_use;
 use stm_terms::expr::{Expr, Op};
@@ -41,6 +41,7 @@ pub(crate) fn name_at(text: &str, name: Span) -> &str
 
 impl Checker<'_> {
     /// A name: the innermost local, else a declared variable, which is noted.
+    #[tactic(auto, using(crate::proofs::CheckedTyped::kind_found))]
     fn check_name(&self, uses: &mut Vec<(u32, Ty)>, name: Span) -> Result<(Expr, Ty), TypeFault>
         requires { CanLookUp self.now (raw.name name) }
         ensures { ChecksExpr self.now (raw.name name)
@@ -50,7 +51,7 @@ impl Checker<'_> {
         if let Some((number, kind)) = find_local(self.locals, text) {
             return Ok((Expr::Local(number), kind));
         }
-        match find_variable(self.known, text) {
+        match self.known.find(text) {
             Some((id, kind)) => {
                 record_use(uses, id, kind)?;
                 Ok((Expr::Global(id), reference_to(kind)))

@@ -3,10 +3,7 @@
 ghost use Rattle.std.specs.Prelude.{◌≡◌, ◌+◌, ◌<◌, ◌≤◌, ◌^◌, ◌∷◌, length, IfSome, Some, None, true};
 ghost use Rattle.stm_terms.specs.Limits.{most_refs};
 ghost use Rattle.stm_check.specs.Scopes.{innermost, names_of, scope, ScopeHasFewRefs, bit_of, HasBits, ScopeIsConsistent};
-ghost use Rattle.stm_check.specs.CheckFunction.{variable};
-ghost use Rattle.stm_store.specs.Naming.{known_kinds};
 
-use stm_store::Names;
 use stm_terms::kinds::Ty;
 
 /// The locals, innermost first: each with its name, its type, its number, which counts from the outermost, and the bits of
@@ -111,13 +108,4 @@ pub(crate) fn find_local(locals: &Scope, name: &str) -> Option<(u32, Ty)>
     } else {
         walk(locals, name)
     }
-}
-
-/// The declared variable of a name: its number, and the type of its cell.
-pub(crate) fn find_variable(known: &Names, name: &str) -> Option<(u32, Ty)>
-    ensures found { result ≡ variable known.now name.now }
-    ensures kind { IfSome result (λ v. known_kinds known.now v.0 ≡ Some v.1) }
-    ensures low { IfSome result (λ v. v.1.refs ≤ most_refs) }
-{
-    known.find(name)
 }

@@ -12,8 +12,9 @@ use Rattle.std.proofs.Math.Seq.{take-append_seam}
 use Rattle.indexmap.specs.IndexMap.{insert_entry}
 use Rattle.stm_terms.specs.declared.kinds.Ty.{Ty}
 use Rattle.stm_terms.specs.Names.{is_name_text}
+use Rattle.stm_terms.specs.Typing.{TypeEnv}
 use Rattle.stm_store.specs.NameEntries.{named_of}
-use Rattle.stm_store.specs.Naming.{Named, known_kinds, number_named, MayHaveType, NumbersAreBelow, AreKnown}
+use Rattle.stm_store.specs.Naming.{Named, known_kinds, number_named, with_kind, variable_named, MayHaveType, NumbersAreBelow, AreKnown}
 use Rattle.stm_store.proofs.HeldTypes.{low_of_held}
 use Rattle.stm_store.proofs.Naming.{number_stays, known_stay}
 use Rattle.stm_store.proofs.Places.{same_bytes}
@@ -47,8 +48,21 @@ pub placed : (test : String Global → Bool) (es : List Entry) (v : ℕ × Ty) �
 placed test [] v h = absurd (cc)
 placed test (e ∷ es) v h = placed_by (test e.0) e es (lookup test es) v (placed test es v) h
 
-pub kind_looked : (test : String Global → Bool) (es : List Entry) (v : ℕ × Ty) → AreKnown (map named_of es) → lookup test es ≡ Some v → known_kinds (map named_of es) v.0 ≡ Some v.1
+kind_looked : (test : String Global → Bool) (es : List Entry) (v : ℕ × Ty) → AreKnown (map named_of es) → lookup test es ≡ Some v → known_kinds (map named_of es) v.0 ≡ Some v.1
 kind_looked test es v k h = let p = placed test es v h in k.typed p.place (named_of (p.key, v)) p.there
+
+-- a variable that is found by its number, with the type of that number's cell
+found_by : (kinds : TypeEnv) (o : Option (ℕ × Ty)) (n : Option ℕ) → option_map (λ v. v.0) o ≡ n → ((v : ℕ × Ty) → o ≡ Some v → kinds v.0 ≡ Some v.1) → o ≡ with_kind kinds n
+found_by kinds (Some v) (Some i) e k =
+    let p : v.0 ≡ i = cc in
+    ap (λ (t : Option Ty). option_map (λ u. (v.0, u)) t) (sym (k v refl)) ∙ ap (λ (j : ℕ). with_kind kinds (Some j)) p
+found_by kinds (Some v) None e k = absurd (cc)
+found_by kinds None (Some i) e k = absurd (cc)
+found_by kinds None None e k = refl
+
+pub found_looked : (name : List ℕ) (es : List Entry) → AreKnown (map named_of es) → lookup (λ k. bytes_eq name (string_bytes k)) es ≡ variable_named name (map named_of es)
+found_looked name es k =
+    found_by (known_kinds (map named_of es)) (lookup (λ k. bytes_eq name (string_bytes k)) es) (number_named name (map named_of es)) (number_looked name es) (λ v. kind_looked (λ k. bytes_eq name (string_bytes k)) es v k)
 
 pub low_looked : (test : String Global → Bool) (es : List Entry) (v : ℕ × Ty) → AreKnown (map named_of es) → lookup test es ≡ Some v → v.1.refs ≤ 8
 low_looked test es v k h = let p = placed test es v h in low_of_held (take p.place (map named_of es)) v.1 (k.held p.place (named_of (p.key, v)) p.there)

@@ -1,6 +1,6 @@
 -- The names that blocks may use, each with the number and the type of its variable. A variable that is declared at the start has its
 -- place as its number. One that is declared later has the next number of the store: blocks may have made variables before it.
-use Rattle.std.specs.Prelude.{◌≡◌, ℕ, ◌+◌, ◌<◌, Bool, true, ◌&&◌, nat_eq, nat_le, List, [], ◌∷◌, Option, Some, None, map, take, slice_get, IsTrue, if◌then◌else◌}
+use Rattle.std.specs.Prelude.{◌≡◌, ℕ, ◌+◌, ◌<◌, Bool, true, ◌&&◌, nat_eq, nat_le, List, [], ◌∷◌, Option, Some, None, map, take, slice_get, option_map, IsTrue, if◌then◌else◌}
 use Rattle.std.specs.Str.{bytes_eq}
 use Rattle.stm_terms.specs.declared.kinds.Ty.{Ty}
 use Rattle.stm_terms.specs.declared.values.Value.{Value}
@@ -32,6 +32,15 @@ known_kinds known = kinds_in (named_uses known)
 abbrev pub number_named : List ℕ → List Named → Option ℕ
 number_named name [] = None
 number_named name (n ∷ ns) = if bytes_eq n.name name then Some n.number else number_named name ns
+
+-- a variable by its number, if it has one, with the type of its cell
+abbrev pub with_kind : TypeEnv → Option ℕ → Option (ℕ × Ty)
+with_kind kinds (Some i) = option_map (λ t. (i, t)) (kinds i)
+with_kind kinds None = None
+
+-- the variable of a name: its number, and the type of its cell
+abbrev pub variable_named : List ℕ → List Named → Option (ℕ × Ty)
+variable_named name known = with_kind (known_kinds known) (number_named name known)
 
 -- the name of the variable of a number
 abbrev pub name_numbered : ℕ → List Named → Option (List ℕ)

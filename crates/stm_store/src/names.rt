@@ -3,7 +3,7 @@
 ghost use Rattle.std.specs.Prelude.{◌≡◌, ◌≢◌, ◌↔◌, ℕ, ◌<◌, ◌≤◌, ◌++◌, ◌∷◌, [], length, IsTrue, IfOk, IfSome, OnOk, OnErr, option_map, slice_get, Some, None};
 ghost use Rattle.stm_terms.specs.Limits.{most_refs};
 ghost use Rattle.stm_terms.specs.Names.{is_name_text};
-ghost use Rattle.stm_store.specs.Naming.{Named, named_in_table, known_kinds, number_named, name_numbered, is_gapless, is_of_known, may_hold_known, MayHaveType, NumbersAreBelow, AreKnown};
+ghost use Rattle.stm_store.specs.Naming.{Named, named_in_table, known_kinds, number_named, variable_named, name_numbered, is_gapless, is_of_known, may_hold_known, MayHaveType, NumbersAreBelow, AreKnown};
 
 use crate::seed::Seed;
 use crate::table::Table;
@@ -76,8 +76,8 @@ impl Names {
     /// The variable of a name: its number, and the type of its cell.
     pub fn find(&self, name: &str) -> Option<(u32, Ty)>
         ensures number { option_map (λ v. v.0) result ≡ number_named name.now self.now }
-        ensures kind { IfSome result (λ v. known_kinds self.now v.0 ≡ Some v.1) }
-        ensures low { IfSome result (λ v. v.1.refs ≤ most_refs) }
+        ensures found { result ≡ variable_named name.now self.now }
+        ensures few { IfSome result (λ v. v.1.refs ≤ most_refs) }
     {
         match self.entries.get(name) {
             Some(variable) => Some(*variable),
