@@ -1,5 +1,6 @@
 -- What a reader has to believe: the cells of a store and what a verdict does to them, declared variables, the names of variables, and
 -- the laws.
+pub mod Applying
 pub mod Cells
 pub mod Laws
 pub mod Naming

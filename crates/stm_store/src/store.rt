@@ -3,7 +3,8 @@
 ghost use Rattle.std.specs.Prelude.{◌≡◌, ◌+◌, ◌<◌, ◌≤◌, ◌↔◌, Some, length, slice_get, option_map, IsTrue, IfOk, IfErr, OnOk, OnErr, IsErrOf};
 ghost use Rattle.std.specs.List.Sorted.{IsStrictlyIncreasing};
 ghost use Rattle.stm_terms.specs.Changes.{cell_value};
-ghost use Rattle.stm_store.specs.Cells.{most_cells, IsStore, StoreIsTyped, StoreHasAtMost8Refs, Covers, Fits, IsApplied, kinds_of, plains, applied, changed_by, result_there, made_by, applied_answer};
+ghost use Rattle.stm_store.specs.Cells.{most_cells, IsStore, StoreIsTyped, StoreHasAtMost8Refs, Covers, Fits, IsApplied, kinds_of, plains, changed_by, made_by};
+ghost use Rattle.stm_store.specs.Applying.{HasRoomFor, AppliesVerdict, PreparesVerdict};
 ghost use Rattle.stm_store.specs.Tables.{opened};
 
 use crate::apply::perform;
@@ -182,16 +183,8 @@ impl Store {
     #[tactic(auto, using(crate::proofs::Lookups::is_applied))]
     pub fn apply(&mut self, verdict: &Verdict) -> Result<Applied, ApplyError>
         requires { Fits (plains self.old) verdict.now }
-        ensures applied { OnOk result (self.new ≡ applied self.old verdict.now) }
+        ensures done { AppliesVerdict self.old verdict.now result self.new }
         ensures each { OnOk result (IsApplied self.old verdict.now self.new) }
-        ensures applied_answer { IfOk result (λ a. (a.first_new ≡ length self.old)
-            × (a.result ≡ result_there self.old verdict.now)) }
-        ensures room { OnOk result (length self.old + length (made_by verdict.now) ≤ most_cells) }
-        ensures full { IsErrOf result ApplyError.CellsFull
-            → most_cells < length self.old + length (made_by verdict.now) }
-        ensures no_memory { IsErrOf result ApplyError.NoMemory
-            → length self.old + length (made_by verdict.now) ≤ most_cells }
-        ensures err { OnErr result (self.new ≡ self.old) }
     {
         self.has_room(verdict)?;
         Ok(perform(&mut self.cells, verdict)?)
@@ -201,13 +194,7 @@ impl Store {
     /// all its memory before its first change.
     pub fn prepare(&self, verdict: &Verdict) -> Result<Ready, ApplyError>
         requires { Fits (plains self.now) verdict.now }
-        ensures ready { IfOk result (λ r. r
-            ≡ (applied self.now verdict.now, applied_answer self.now verdict.now)) }
-        ensures room { OnOk result (length self.now + length (made_by verdict.now) ≤ most_cells) }
-        ensures full { IsErrOf result ApplyError.CellsFull
-            → most_cells < length self.now + length (made_by verdict.now) }
-        ensures no_memory { IsErrOf result ApplyError.NoMemory
-            → length self.now + length (made_by verdict.now) ≤ most_cells }
+        ensures { PreparesVerdict self.now verdict.now result }
     {
         self.has_room(verdict)?;
         let mut cells = self.cells.share()?;
@@ -226,7 +213,7 @@ impl Store {
 
     /// Whether there is room for the variables that the verdict makes.
     fn has_room(&self, verdict: &Verdict) -> Result<(), ApplyError>
-        ensures ok { OnOk result (length self.now + length (made_by verdict.now) ≤ most_cells) }
+        ensures ok { OnOk result (HasRoomFor self.now verdict.now) }
         ensures err { OnErr result (most_cells < length self.now + length (made_by verdict.now)) }
         ensures full { IfErr result (λ e. e ≡ ApplyError.CellsFull) }
     {
