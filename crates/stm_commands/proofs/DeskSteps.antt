@@ -31,7 +31,7 @@ use Rattle.stm_desk.specs.declared.atomic.Ran.{Ran}
 use Rattle.stm_desk.specs.declared.errors.AtomicError.{AtomicError}
 use Rattle.stm_desk.specs.declared.errors.AtomicError.TheVariants as atomic
 use Rattle.stm_desk.specs.Refusals.{IsAtomicError, submit_refusal, late_declare_refusal, atomic_refusal, cancel_refusal, label_refusal, finish_refusal}
-use Rattle.stm_desk.proofs.Calls.{accepted}
+use Rattle.stm_terms.proofs.Refused.{accepted, refusal_is}
 use Rattle.stm_desk.proofs.Starts.{start_rule}
 use Rattle.stm_desk.specs.declared.finish.Finish.{Finish}
 use Rattle.stm_desk.specs.Events.{finish_of, evaluated_and_finished, whats_ran}
@@ -55,11 +55,6 @@ use Rattle.stm_commands.proofs.EvaluatedHere.{marked_queued}
 
 abbrev opened_as : List HandedOut → DeskView → OpenDesk
 opened_as js d = record { desk = d; jobs = js }
-
--- a refusal that isn't for lack of memory is the definition's
-refusal_is : (A : Type 0) {E : Type 0} (no_memory : E) (o : Option E) (e : E) → RefusedAs {A = A} no_memory o (Err e) → e ≢ no_memory → o ≡ Some e
-refusal_is A no_memory None e h n = absurd (n h)
-refusal_is A no_memory (Some r) e h n = let q : r ≡ e = cc in ap Some q
 
 -- ---- submit
 pub submit_ok : {A E : Type 0} → (d e : DeskView) (js : List HandedOut) (b : Block) (t : ℕ) (old new : List ℕ) (r : Result A E) → e ≡ with_event d 0 (Submitted t b) → t ≡ (state_of d).next → RefusedAs submit.NoMemory (submit_refusal d b) (Ok t)

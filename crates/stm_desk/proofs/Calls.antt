@@ -27,11 +27,6 @@ at_state m s (Ok x) P k h = h s k
 at_state m s (Err e) P k h = tt
 
 -- ---- refusals
--- nothing refuses what is accepted
-pub accepted : {A E : Type 0} (no_memory : E) (o : Option E) (x : A) → RefusedAs no_memory o (Ok x) → o ≡ None
-accepted no_memory None x h = refl
-accepted no_memory (Some r) x h = cc
-
 -- where nothing refuses a call, it succeeds or memory ran out
 pub unless_memory : {A E : Type 0} (no_memory : E) (o : Option E) (r : Result A E) → o ≡ None → IfErr r (λ e. e ≡ no_memory) → RefusedAs no_memory o r
 unless_memory no_memory o r n h = rw n h

@@ -1,8 +1,10 @@
 -- A variable that a table refuses.
 use Rattle.std.proofs.Common.{◌≡◌, ℕ, List, Some, None, Err, refl, sym, ◌∙◌, subst, inl, inr}
+use Rattle.stm_terms.specs.UnlessNoMemory.{RefusedAs}
+use Rattle.stm_terms.proofs.Refused.{refusal_is}
 use Rattle.stm_store.specs.declared.table.DeclareError.{DeclareError}
 use Rattle.stm_store.specs.declared.table.DeclareError.TheVariants as declare
-use Rattle.stm_store.specs.Tables.{Declared, declare_refusal, refusal_of}
+use Rattle.stm_store.specs.Tables.{Declared, declare_refusal}
 use Rattle.stm_event_lines.specs.Fits.{FitsVariable}
 use Rattle.stm_event_lines.specs.Lines.{variable_line}
 use Rattle.stm_event_lines.proofs.ReadsBack.{variable_same}
@@ -18,8 +20,8 @@ undeclared format n table c line e l f told = λ q k.
     let none : declare_refusal table c.name c.kind c.value ≡ None = subst (λ (x : Declared). declare_refusal table x.name x.kind x.value ≡ None) same may.may in
     cc
 
-pub declare_fault : (format n : ℕ) (table : List Declared) (c : Declared) (line : List ℕ) (e : DeclareError) → variable_line c ≡ line → FitsVariable c → refusal_of (Err e) ≡ declare_refusal table c.name c.kind c.value → MayRefuse (at_variables format n table) line (refused_by e)
-declare_fault format n table c line declare.NoMemory l f told = inl refl
-declare_fault format n table c line declare.Twice l f told = inr (inl (refl, undeclared format n table c line declare.Twice l f told))
-declare_fault format n table c line declare.TypeOfValue l f told = inr (inl (refl, undeclared format n table c line declare.TypeOfValue l f told))
-declare_fault format n table c line declare.TableFull l f told = inr (inl (refl, undeclared format n table c line declare.TableFull l f told))
+pub declare_fault : (format n : ℕ) (table : List Declared) (c : Declared) (line : List ℕ) (e : DeclareError) → variable_line c ≡ line → FitsVariable c → RefusedAs {A = ℕ} declare.NoMemory (declare_refusal table c.name c.kind c.value) (Err e) → MayRefuse (at_variables format n table) line (refused_by e)
+declare_fault format n table c line declare.NoMemory l f refused = inl refl
+declare_fault format n table c line declare.Twice l f refused = inr (inl (refl, undeclared format n table c line declare.Twice l f (sym (refusal_is ℕ declare.NoMemory _ declare.Twice refused (λ q. cc)))))
+declare_fault format n table c line declare.TypeOfValue l f refused = inr (inl (refl, undeclared format n table c line declare.TypeOfValue l f (sym (refusal_is ℕ declare.NoMemory _ declare.TypeOfValue refused (λ q. cc)))))
+declare_fault format n table c line declare.TableFull l f refused = inr (inl (refl, undeclared format n table c line declare.TableFull l f (sym (refusal_is ℕ declare.NoMemory _ declare.TableFull refused (λ q. cc)))))

@@ -1,5 +1,5 @@
 -- The declared variables, in the order of their declaration.
-use Rattle.std.specs.Prelude.{◌≡◌, ℕ, ◌+◌, ◌≤◌, Bool, false, not, ◌&&◌, nat_le, nat_lt, List, [], ◌∷◌, Option, Some, None, Result, Ok, Err, map, length, is_some, slice_get, take, IsTrue, if◌then◌else◌}
+use Rattle.std.specs.Prelude.{◌≡◌, ℕ, ◌+◌, ◌≤◌, Bool, false, not, ◌&&◌, nat_le, nat_lt, List, [], ◌∷◌, Option, Some, None, map, length, is_some, slice_get, take, IsTrue, if◌then◌else◌}
 use Rattle.std.specs.Str.{bytes_eq}
 use Rattle.stm_terms.specs.declared.kinds.Ty.{Ty}
 use Rattle.stm_terms.specs.declared.values.Value.{Value}
@@ -9,7 +9,7 @@ use Rattle.stm_terms.specs.Typing.{type_of, same_ty}
 use Rattle.stm_terms.specs.Changes.{no_changes}
 use Rattle.stm_store.specs.declared.cell.Cell.{Cell}
 use Rattle.stm_store.specs.declared.table.DeclareError.{DeclareError}
-use Rattle.stm_store.specs.declared.table.DeclareError.TheVariants.{Twice, TypeOfValue, TableFull, NoMemory}
+use Rattle.stm_store.specs.declared.table.DeclareError.TheVariants.{Twice, TypeOfValue, TableFull}
 use Rattle.stm_store.specs.Cells.{most_cells, kinds_of, StoreIsTyped, StoreHasAtMost8Refs}
 
 -- a variable's name, the type of its cell, and its first value
@@ -62,14 +62,6 @@ declare_refusal table name kind value =
     if is_some (number_of name table) then Some Twice
     else if not (may_hold (declared_cells table) kind value) then Some TypeOfValue
     else if nat_lt (length table) most_cells then None else Some TableFull
-
--- the refusal that a result reports; an out-of-memory error is none
-abbrev pub refusal_of : Result ℕ DeclareError → Option DeclareError
-refusal_of (Ok id) = None
-refusal_of (Err Twice) = Some Twice
-refusal_of (Err TypeOfValue) = Some TypeOfValue
-refusal_of (Err TableFull) = Some TableFull
-refusal_of (Err NoMemory) = None
 
 -- each name is a name of the language
 abbrev pub NamesAreNames : List Declared → Type 0

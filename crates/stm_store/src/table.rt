@@ -2,8 +2,10 @@
 
 ghost use Rattle.std.specs.Prelude.{◌≡◌, ◌<◌, ◌≤◌, ◌++◌, ◌∷◌, [], Some, length, IsTrue, IfOk, IfSome, OnOk, OnErr, slice_get, option_map};
 ghost use Rattle.stm_terms.specs.Names.{is_name_text};
+ghost use Rattle.stm_terms.specs.UnlessNoMemory.{RefusedAs};
+ghost use Rattle.stm_store.specs.declared.table.DeclareError.{DeclareError};
 ghost use Rattle.stm_store.specs.Cells.{most_cells, StoreIsTyped, StoreHasAtMost8Refs, kinds_of};
-ghost use Rattle.stm_store.specs.Tables.{Declared, declared_cells, number_of, is_of, may_hold, declare_refusal, refusal_of, NamesAreNames, NamesAreDistinct, AreDeclared};
+ghost use Rattle.stm_store.specs.Tables.{Declared, declared_cells, number_of, is_of, may_hold, declare_refusal, NamesAreNames, NamesAreDistinct, AreDeclared};
 
 use crate::seed::Seed;
 use crate::types::{plain_type, refers_to};
@@ -185,11 +187,11 @@ impl Table {
     /// Declares a variable after the others and returns its number. The caller knows that the name is one.
     pub fn declare(&mut self, name: &str, kind: Ty, value: Value) -> Result<u32, DeclareError>
         requires { IsTrue (is_name_text name.now) }
-        ensures ok { IfOk result (λ id. (id ≡ length self.old)
+        ensures done { IfOk result (λ id. (id ≡ length self.old)
             × (self.new ≡ self.old
             ++ record { name = name.now; kind = kind; value = value } ∷ [])) }
-        ensures err { OnErr result (self.new ≡ self.old) }
-        ensures told { refusal_of result ≡ declare_refusal self.old name.now kind value }
+        ensures unchanged { OnErr result (self.new ≡ self.old) }
+        ensures refused { RefusedAs DeclareError.NoMemory (declare_refusal self.old name.now kind value) result }
     {
         if self.find(name).is_some() {
             return Err(DeclareError::Twice);

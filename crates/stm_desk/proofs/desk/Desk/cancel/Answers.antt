@@ -8,7 +8,8 @@ use Rattle.stm_machine.specs.Machine.{event}
 use Rattle.stm_desk.specs.Kept.{DeskInvariant, HasLabels}
 use Rattle.stm_desk.specs.DeskView.{DeskView}
 use Rattle.stm_desk.specs.Refusals.{cancel_refusal}
-use Rattle.stm_desk.proofs.Calls.{accepted, may_cancel, kept_move}
+use Rattle.stm_terms.proofs.Refused.{accepted}
+use Rattle.stm_desk.proofs.Calls.{may_cancel, kept_move}
 use Rattle.stm_desk.proofs.Labels.{label_goes}
 use Rattle.stm_desk.proofs.Views.{room_of}
 use Rattle.stm_desk.proofs.desk.Desk.cancel.Goals as goal

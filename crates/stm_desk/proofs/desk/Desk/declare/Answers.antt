@@ -1,7 +1,8 @@
 use Rattle.std.proofs.Common.{ℕ}
 use Rattle.stm_events.specs.declared.errors.LateDeclareError.TheVariants.{NoMemory}
 use Rattle.stm_desk.specs.Refusals.{late_declare_refusal}
-use Rattle.stm_desk.proofs.Calls.{accepted, refused_alike}
+use Rattle.stm_terms.proofs.Refused.{accepted}
+use Rattle.stm_desk.proofs.Calls.{refused_alike}
 use Rattle.stm_desk.proofs.desk.Desk.declare.Goals as goal
 
 pub declare_allowed-requires-clause-allowed : goal.declare_allowed-requires-clause-allowed

@@ -5,7 +5,8 @@ use Rattle.stm_events.specs.SlowDesk.{state_from}
 use Rattle.stm_machine.specs.Checkpoints.{start_of}
 use Rattle.stm_desk.specs.DeskView.{DeskView}
 use Rattle.stm_desk.specs.Refusals.{submit_refusal}
-use Rattle.stm_desk.proofs.Calls.{accepted, refused_alike, ticket_left, may_submit, kept_move}
+use Rattle.stm_terms.proofs.Refused.{accepted}
+use Rattle.stm_desk.proofs.Calls.{refused_alike, ticket_left, may_submit, kept_move}
 use Rattle.stm_desk.proofs.Labels.{labels_stay}
 use Rattle.stm_desk.proofs.Views.{room_of}
 use Rattle.stm_desk.proofs.desk.Desk.submit.Goals as goal

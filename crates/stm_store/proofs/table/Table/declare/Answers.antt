@@ -16,8 +16,8 @@ invariant_of-self-2 c =
     let less : length (map declared_of es) < 1000000 = rw c.self.view_is (omega arith) in
     rw is (table-added (map declared_of es) (record { name = c.args.name.now; kind = c.args.kind; value = c.args.value }) c.self.invariant less holds fresh c.requires)
 
-pub returns-clause-ok : goal.returns-clause-ok
-returns-clause-ok c =
+pub returns-clause-done : goal.returns-clause-done
+returns-clause-done c =
     let es = c.self.inside.entries.entries in
     let key_is : string_bytes c.in_ok-key.key ≡ c.args.name.now = search rules in
     let none : is_some (number_of c.args.name.now c.args.self.now) ≡ false = search rules in
