@@ -1,8 +1,8 @@
 //! An unchanging copy of a store.
 
-ghost use Rattle.std.specs.Prelude.{◌≡◌, ◌<◌, ◌≤◌, ◌↔◌, Some, length, IsTrue, IfOk};
+ghost use Rattle.std.specs.Prelude.{◌≡◌, ◌<◌, ◌↔◌, Some, length, IsTrue, IfOk};
 ghost use Rattle.stm_terms.specs.Changes.{cell_value};
-ghost use Rattle.stm_store.specs.Cells.{most_cells, StoreIsTyped, StoreHasAtMost8Refs, IsStore, Covers, kinds_of, plains};
+ghost use Rattle.stm_store.specs.Cells.{IsStore, Covers, kinds_of, plains};
 
 use crate::cell_list::CellList;
 use crate::covers::covers;
@@ -38,12 +38,10 @@ impl Frozen {
         Frozen { cells }
     }
 
-    /// How many variables there are. The other clauses hold of every copy.
+    /// How many variables there are. The other clause holds of every copy.
     pub fn len(&self) -> usize
         ensures len { result ≡ length self.now }
-        ensures small { length self.now ≤ most_cells }
-        ensures typed { StoreIsTyped self.now }
-        ensures low { StoreHasAtMost8Refs self.now }
+        ensures store { IsStore self.now }
     {
         self.cells.len()
     }

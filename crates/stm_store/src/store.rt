@@ -3,7 +3,7 @@
 ghost use Rattle.std.specs.Prelude.{◌≡◌, ◌+◌, ◌<◌, ◌≤◌, ◌↔◌, Some, length, slice_get, option_map, IsTrue, IfOk, IfErr, OnOk, OnErr, IsErrOf};
 ghost use Rattle.std.specs.List.Sorted.{IsStrictlyIncreasing};
 ghost use Rattle.stm_terms.specs.Changes.{cell_value};
-ghost use Rattle.stm_store.specs.Cells.{most_cells, IsStore, StoreIsTyped, StoreHasAtMost8Refs, Covers, Fits, IsApplied, kinds_of, plains, changed_by, made_by};
+ghost use Rattle.stm_store.specs.Cells.{most_cells, IsStore, Covers, Fits, IsApplied, kinds_of, plains, changed_by, made_by};
 ghost use Rattle.stm_store.specs.Applying.{HasRoomFor, AppliesVerdict, PreparesVerdict};
 ghost use Rattle.stm_store.specs.Tables.{opened};
 
@@ -86,9 +86,8 @@ impl Store {
     /// How many variables there are. The other clauses hold of every store.
     pub fn len(&self) -> usize
         ensures len { result ≡ length self.now }
-        ensures small { length self.now ≤ most_cells }
-        ensures typed { StoreIsTyped (plains self.now) }
-        ensures low { StoreHasAtMost8Refs (plains self.now) }
+        ensures few { length self.now ≤ most_cells }
+        ensures store { IsStore (plains self.now) }
     {
         self.cells.len()
     }

@@ -1,11 +1,11 @@
 //! The table of the declared variables.
 
-ghost use Rattle.std.specs.Prelude.{◌≡◌, ◌<◌, ◌≤◌, ◌++◌, ◌∷◌, [], Some, length, IsTrue, IfOk, IfSome, OnOk, OnErr, slice_get, option_map};
+ghost use Rattle.std.specs.Prelude.{◌≡◌, ◌<◌, ◌++◌, ◌∷◌, [], Some, length, IsTrue, IfOk, IfSome, OnOk, OnErr, slice_get, option_map};
 ghost use Rattle.stm_terms.specs.Names.{is_name_text};
 ghost use Rattle.stm_terms.specs.UnlessNoMemory.{RefusedAs};
 ghost use Rattle.stm_store.specs.declared.table.DeclareError.{DeclareError};
-ghost use Rattle.stm_store.specs.Cells.{most_cells, StoreIsTyped, StoreHasAtMost8Refs, kinds_of};
-ghost use Rattle.stm_store.specs.Tables.{Declared, declared_cells, number_of, is_of, may_hold, declare_refusal, NamesAreNames, NamesAreDistinct, AreDeclared};
+ghost use Rattle.stm_store.specs.Cells.{kinds_of};
+ghost use Rattle.stm_store.specs.Tables.{Declared, declared_cells, number_of, is_of, may_hold, declare_refusal, IsTable};
 
 use crate::seed::Seed;
 use crate::types::{plain_type, refers_to};
@@ -95,15 +95,10 @@ impl Table {
         *self.entries.hasher()
     }
 
-    /// How many variables there are. The other clauses hold of every table.
+    /// How many variables there are. The other clause holds of every table.
     pub fn len(&self) -> usize
         ensures len { result ≡ length self.now }
-        ensures small { length self.now ≤ most_cells }
-        ensures typed { StoreIsTyped (declared_cells self.now) }
-        ensures low { StoreHasAtMost8Refs (declared_cells self.now) }
-        ensures named { NamesAreNames self.now }
-        ensures distinct { NamesAreDistinct self.now }
-        ensures declared { AreDeclared self.now }
+        ensures table { IsTable self.now }
     {
         self.entries.len()
     }

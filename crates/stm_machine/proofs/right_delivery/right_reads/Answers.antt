@@ -29,7 +29,7 @@ returns-in_ok-frozen-in-None-clause-right c =
       | else-is_stale-via-else-is_stale w ↦ λ t. cc (w.if-is_stale.false, c.is_stale.ensures, t)
     ] in
     on_ok _ _ c.reads_on.result
-    (λ h. right_present c.args.store.now c.args.block.now d.stale (held_of d) c.len-cells.ensures.typed same some
+    (λ h. right_present c.args.store.now c.args.block.now d.stale (held_of d) c.len-cells.ensures.store.typed same some
     (subst (λ (f : List (Ty × Value)). Holds c.args.block.now.tree (cell_value f) d.reads d.verdict) c.in_ok-frozen-in-None.ensures h)) c.reads_on.ensures.holds
 
 pub returns-in_ok-frozen-in-None-clause-refused : goal.returns-in_ok-frozen-in-None-clause-refused

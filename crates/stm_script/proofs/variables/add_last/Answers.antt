@@ -8,7 +8,7 @@ use Rattle.stm_script.proofs.variables.add_last.Goals as goal
 pub add-requires-clause-fresh : goal.add-requires-clause-fresh
 add-requires-clause-fresh c =
     let e = entry_at c.args.table.now (c.len.result - 1) c.name.result.now c.kind.result c.name.ensures c.kind.ensures in
-    rw (c.requires.others, sym c.len.ensures.len) (fresh_name c.args.table.now (c.len.result - 1) c.name.result.now c.kind.result c.len.ensures.declared e)
+    rw (c.requires.others, sym c.len.ensures.len) (fresh_name c.args.table.now (c.len.result - 1) c.name.result.now c.kind.result c.len.ensures.table.declared e)
 
 pub add-requires-clause-above : goal.add-requires-clause-above
 add-requires-clause-above c =
@@ -18,7 +18,7 @@ add-requires-clause-above c =
 pub add-requires-clause-held : goal.add-requires-clause-held
 add-requires-clause-held c =
     let e = entry_at c.args.table.now (c.len.result - 1) c.name.result.now c.kind.result c.name.ensures c.kind.ensures in
-    rw (c.requires.others, sym c.len.ensures.len) (held_kind c.args.table.now (c.len.result - 1) c.name.result.now c.kind.result c.len.ensures.declared e)
+    rw (c.requires.others, sym c.len.ensures.len) (held_kind c.args.table.now (c.len.result - 1) c.name.result.now c.kind.result c.len.ensures.table.declared e)
 
 pub returns : goal.returns
 returns c =

@@ -24,7 +24,7 @@ invariant_of-self c =
     let labels = labels_of view in
     let is = checkpoint_of_fields c.self.view_is c.requires in
     subst (λ (es : List Event). DeskInvariant d.table (Some c.args.checkpoint) d.limit es d.machine × HasLabels (Some c.args.checkpoint) es d.labels) (sym c.take_events.ensures.none) (
-      checkpoint_kept _ _ _ _ _ k c.len-variables.ensures.typed labels (causes_of view) c.args.checkpoint is c.next-next.ensures.checkpoint,
+      checkpoint_kept _ _ _ _ _ k c.len-variables.ensures.table.typed labels (causes_of view) c.args.checkpoint is c.next-next.ensures.checkpoint,
       labels_kept s labels d.labels (causes_of view) d.checkpoint d.history.items c.args.checkpoint c.self.invariant.1 refl (labels_wait d.table d.checkpoint d.history.items k.start k.legal.each) is,
     )
 
@@ -41,7 +41,7 @@ returns c =
       taken = search rules;
       unseen =
           ap (λ (es : List Event). observed (state_from (checkpoint_state c.args.checkpoint) es)) c.take_events.ensures.none
-          ∙ unseen _ _ _ _ _ k c.len-variables.ensures.typed labels (causes_of view) c.args.checkpoint is c.next-next.ensures.checkpoint
+          ∙ unseen _ _ _ _ _ k c.len-variables.ensures.table.typed labels (causes_of view) c.args.checkpoint is c.next-next.ensures.checkpoint
           ∙ ap (λ (x : DeskView). observed (state_of x)) c.self.view_is;
       labels = λ t.
           ap (λ (es : List Event). label_of t (labels_from (first_labels (Some c.args.checkpoint)) es)) c.take_events.ensures.none
@@ -49,7 +49,7 @@ returns c =
           ∙ labels_caused s labels (causes_of view) t (labels_wait d.table d.checkpoint d.history.items k.start k.legal.each)
           ∙ ap (λ (x : DeskView). label_of t (labels_of x)) c.self.view_is;
       reasons = λ t.
-          let stay = reasons_stay view k.start (typed_history _ _ _ _ _ k c.len-variables.ensures.typed) (subst IsCheckpoint is c.next-next.ensures.checkpoint) t in
+          let stay = reasons_stay view k.start (typed_history _ _ _ _ _ k c.len-variables.ensures.table.typed) (subst IsCheckpoint is c.next-next.ensures.checkpoint) t in
           ap (λ (es : List Event). reason_of (record view { checkpoint = Some c.args.checkpoint; history = es }) t) c.take_events.ensures.none
           ∙ ap (λ (x : CheckpointView). reason_of (record view { checkpoint = Some x; history = [] }) t) is
           ∙ stay ∙ ap (λ (x : DeskView). reason_of x t) c.self.view_is;

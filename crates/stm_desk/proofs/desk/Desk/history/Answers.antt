@@ -14,14 +14,14 @@ pub returns-clause-verdicts : goal.returns-clause-verdicts
 returns-clause-verdicts c =
     let d = view_of c.self.inside in
     let k = c.self.invariant.0 in
-    let typed : IsTypedState (state_of d) = typed_now (start_state d) d.history (typed_history _ _ _ _ _ k c.len-variables.ensures.typed) in
+    let typed : IsTypedState (state_of d) = typed_now (start_state d) d.history (typed_history _ _ _ _ _ k c.len-variables.ensures.table.typed) in
     subst (λ (d : DeskView). AllHaveVerdicts (state_of d)) c.self.view_is (have_verdicts (state_of d) k.at.possible typed)
 
 pub returns-clause-rounds : goal.returns-clause-rounds
 returns-clause-rounds c =
     let d = view_of c.self.inside in
     let k = c.self.invariant.0 in
-    let typed : IsTypedState (state_of d) = typed_now (start_state d) d.history (typed_history _ _ _ _ _ k c.len-variables.ensures.typed) in
+    let typed : IsTypedState (state_of d) = typed_now (start_state d) d.history (typed_history _ _ _ _ _ k c.len-variables.ensures.table.typed) in
     subst (λ (d : DeskView). SettlesInRounds (state_of d)) c.self.view_is (settles_in_rounds (state_of d) k.at.possible (have_verdicts (state_of d) k.at.possible typed))
 
 pub returns-clause-headline : goal.returns-clause-headline

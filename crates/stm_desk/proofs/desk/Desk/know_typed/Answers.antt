@@ -7,5 +7,5 @@ use Rattle.stm_desk.proofs.desk.Desk.know_typed.Goals as goal
 pub returns-clause-typed : goal.returns-clause-typed
 returns-clause-typed c =
     let d : DeskView = record { table = c.self.inside.table; checkpoint = c.self.inside.checkpoint; limit = c.self.inside.limit; history = c.self.inside.history.items; pending = c.self.inside.machine.pending } in
-    let typed : IsTypedState (state_of d) = typed_now (start_state d) d.history (typed_history _ _ _ _ _ c.self.invariant.0 c.len-variables.ensures.typed) in
+    let typed : IsTypedState (state_of d) = typed_now (start_state d) d.history (typed_history _ _ _ _ _ c.self.invariant.0 c.len-variables.ensures.table.typed) in
     subst (λ (d : DeskView). IsTypedState (state_of d)) c.self.view_is typed

@@ -10,7 +10,7 @@ use Rattle.stm_desk.proofs.desk.Desk.next_checkpoint.Goals as goal
 pub checkpoint-requires-clause-at : goal.checkpoint-requires-clause-at
 checkpoint-requires-clause-at c =
     let k = c.self.invariant.0 in
-    let cells = c.len-variables.ensures.typed in
+    let cells = c.len-variables.ensures.table.typed in
     (state_from (start_of c.self.inside.table c.self.inside.checkpoint) c.self.inside.history.items, k.at, now_typed _ _ _ _ _ k cells, now_rule _ _ _ _ _ k cells)
 
 pub checkpoint-requires-clause-labels : goal.checkpoint-requires-clause-labels

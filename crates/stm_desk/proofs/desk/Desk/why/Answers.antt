@@ -52,7 +52,7 @@ pub stale_reason-requires : goal.stale_reason-requires
 stale_reason-requires c =
     let history = c.self.inside.history.items in
     let start = start_of c.self.inside.table c.self.inside.checkpoint in
-    subst EachIsWritable (sym c.deref.ensures.value) (each_is_writable start history (typed_history _ _ _ _ _ c.self.invariant.0 c.len-variables.ensures.typed))
+    subst EachIsWritable (sym c.deref.ensures.value) (each_is_writable start history (typed_history _ _ _ _ _ c.self.invariant.0 c.len-variables.ensures.table.typed))
 
 pub returns-in-Stale-clause-reason : goal.returns-in-Stale-clause-reason
 returns-in-Stale-clause-reason c =
@@ -61,7 +61,7 @@ returns-in-Stale-clause-reason c =
     let t = c.args.ticket in
     let reads = c.in-Some-reads.reads.now in
     let p : IsListedReason d t reads =
-    stands_stale d t (Some c.in-Stale.field-0.now) reads k.start (typed_history _ _ _ _ _ k c.len-variables.ensures.typed)
+    stands_stale d t (Some c.in-Stale.field-0.now) reads k.start (typed_history _ _ _ _ _ k c.len-variables.ensures.table.typed)
     (ap (λ (s : Status). Some (shown s)) (sym c.in-Stale.is) ∙ c.in-Some.ensures (state_of d) k.at)
     (c.in-Some-reads.ensures.then (state_of d) k.at)
     in
@@ -85,16 +85,16 @@ returns-in-Current-clause-reason c =
     (λ w f current. c.in-Some-reads.ensures.present (state_of d) w k.at f current))
 
 pub returns-in_default-clause-waits : goal.returns-in_default-clause-waits
-returns-in_default-clause-waits c = has_one c.self.inside _ c.args.ticket c.self.view_is c.self.invariant.0 c.len-variables.ensures.typed
+returns-in_default-clause-waits c = has_one c.self.inside _ c.args.ticket c.self.view_is c.self.invariant.0 c.len-variables.ensures.table.typed
 
 pub returns-in_default-reads-clause-waits : goal.returns-in_default-reads-clause-waits
-returns-in_default-reads-clause-waits c = has_one c.self.inside _ c.args.ticket c.self.view_is c.self.invariant.0 c.len-variables.ensures.typed
+returns-in_default-reads-clause-waits c = has_one c.self.inside _ c.args.ticket c.self.view_is c.self.invariant.0 c.len-variables.ensures.table.typed
 
 pub returns-in-New-clause-waits : goal.returns-in-New-clause-waits
-returns-in-New-clause-waits c = has_one c.self.inside _ c.args.ticket c.self.view_is c.self.invariant.0 c.len-variables.ensures.typed
+returns-in-New-clause-waits c = has_one c.self.inside _ c.args.ticket c.self.view_is c.self.invariant.0 c.len-variables.ensures.table.typed
 
 pub returns-in-Stale-clause-waits : goal.returns-in-Stale-clause-waits
-returns-in-Stale-clause-waits c = has_one c.self.inside _ c.args.ticket c.self.view_is c.self.invariant.0 c.len-variables.ensures.typed
+returns-in-Stale-clause-waits c = has_one c.self.inside _ c.args.ticket c.self.view_is c.self.invariant.0 c.len-variables.ensures.table.typed
 
 pub returns-in-Current-clause-waits : goal.returns-in-Current-clause-waits
-returns-in-Current-clause-waits c = has_one c.self.inside _ c.args.ticket c.self.view_is c.self.invariant.0 c.len-variables.ensures.typed
+returns-in-Current-clause-waits c = has_one c.self.inside _ c.args.ticket c.self.view_is c.self.invariant.0 c.len-variables.ensures.table.typed

@@ -37,7 +37,7 @@ may_have d now checkpoint causes e k cells is found =
 
 pub with_causes-requires : goal.with_causes-requires
 with_causes-requires c =
-    may_have c.self.inside _ c.args.checkpoint (λ t. kept_cause_of t c.in_ok-causes.causes) c.self.view_is c.self.invariant.0 c.len-variables.ensures.typed c.requires c.in_ok-causes.ensures
+    may_have c.self.inside _ c.args.checkpoint (λ t. kept_cause_of t c.in_ok-causes.causes) c.self.view_is c.self.invariant.0 c.len-variables.ensures.table.typed c.requires c.in_ok-causes.ensures
 
 pub returns-clause-taken : goal.returns-clause-taken
 returns-clause-taken c =
@@ -54,9 +54,9 @@ returns-clause-start c =
     let labels = labels_from (first_labels d.checkpoint) d.history.items in
     let causes : ℕ → Option KeptCause = λ t. kept_cause_of t c.in_ok-causes.causes in
     let plain : c.args.checkpoint ≡ with_labels labels (checkpoint_of s) = c.requires ∙ sym (ap (λ (x : DeskView). with_labels (labels_of x) (checkpoint_of (state_of x))) c.self.view_is) in
-    let may = may_have d _ c.args.checkpoint causes c.self.view_is k c.len-variables.ensures.typed c.requires c.in_ok-causes.ensures in
+    let may = may_have d _ c.args.checkpoint causes c.self.view_is k c.len-variables.ensures.table.typed c.requires c.in_ok-causes.ensures in
     let is = (causes_leave_checkpoints causes c.args.checkpoint may c.next-next.ensures.checkpoint).0 in
     of_returned c.with_causes.result (λ x. x ≡ with_causes causes c.args.checkpoint) (λ x. MayStart c.args.self.now.table (Some x))
     (λ x e. subst (λ (y : DeskView). MayStart y.table (Some x)) c.self.view_is
-    (checkpoint_kept _ _ _ _ _ k c.len-variables.ensures.typed labels causes x (e ∙ ap (with_causes causes) plain) (subst IsCheckpoint (sym e) is)).start)
+    (checkpoint_kept _ _ _ _ _ k c.len-variables.ensures.table.typed labels causes x (e ∙ ap (with_causes causes) plain) (subst IsCheckpoint (sym e) is)).start)
     c.with_causes.ensures

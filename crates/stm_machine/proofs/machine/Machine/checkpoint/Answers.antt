@@ -1,5 +1,4 @@
 use Rattle.std.proofs.Common.{refl, sym, subst, arith}
-use Rattle.std.proofs.lemmas.List.{length-map}
 use Rattle.stm_machine.specs.Machine.{Parts, IsAt}
 use Rattle.stm_machine.proofs.CheckpointTaken.{kept_rise, taken_of, taken_right}
 use Rattle.stm_machine.proofs.machine.Machine.checkpoint.Goals as goal
@@ -15,7 +14,7 @@ invariant_of-result c =
     let s = c.requires.at.0 in
     let k = subst (λ (m : Parts). IsAt m s) (sym c.self.view_is) c.requires.at.1 in
     taken_right _ s c.args.labels.now c.in_ok-share.field-0 c.in_ok-copy.field-0 _ c.in_ok-blocks.blocks.items k c.requires.labels c.requires.at.2 c.requires.at.3 (omega (arith, c.if-self-gt-MAX_NEXT.false))
-    (record { small = rw length-map c.len-cells.ensures.small; typed = c.len-cells.ensures.typed; low = c.len-cells.ensures.low }) c.in_ok-share.ensures c.in_ok-copy.ensures refl c.in_ok-blocks.ensures
+    c.len-cells.ensures.store c.in_ok-share.ensures c.in_ok-copy.ensures refl c.in_ok-blocks.ensures
 
 pub returns-clause-taken : goal.returns-clause-taken
 returns-clause-taken c = λ s h.

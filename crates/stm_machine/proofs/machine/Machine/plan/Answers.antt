@@ -86,5 +86,5 @@ returns-in-Ok-clause-plan c = λ s h.
     let a : action_type (kinds_in c.in-Some.waiting.now.block.uses) [] c.in-Some.waiting.now.block.tree ≡ Some (result_type c.in-Some.waiting.now.block.result_type) =
     subst (λ (b : Block). action_type (kinds_in b.uses) [] b.tree ≡ Some (result_type b.result_type)) c.block.ensures c.action-action.ensures.typed in
     is_plan _ s k c.args.ticket c.in-Some-held.held c.in-Some.waiting.now _ p c.in-Ok.plan.verdict c.in-Ok.plan.first_new c.in-Ok.plan.stale
-    q c.len-cells.ensures.typed a (ap is_blocks (sym c.verdict-verdict.ensures) ∙ sym c.blocks-2.ensures ∙ c.if-blocks.false) (ap (λ v. overflows c.self.inside.store (Some v)) (sym c.verdict-verdict.ensures) ∙ sym c.overflows_store.ensures ∙ c.if-overflows_store.false)
+    q c.len-cells.ensures.store.typed a (ap is_blocks (sym c.verdict-verdict.ensures) ∙ sym c.blocks-2.ensures ∙ c.if-blocks.false) (ap (λ v. overflows c.self.inside.store (Some v)) (sym c.verdict-verdict.ensures) ∙ sym c.overflows_store.ensures ∙ c.if-overflows_store.false)
     c.in-Ok.ensures.verdict c.in-Ok.ensures.first_new c.in-Ok.ensures.rising c.in-Ok.ensures.watchers

@@ -21,5 +21,5 @@ returns c =
     let a : action_type (kinds_in c.args.block.now.uses) [] c.args.block.now.tree ≡ Some (result_type c.args.block.now.result_type) =
     subst (λ (b : Block). action_type (kinds_in b.uses) [] b.tree ≡ Some (result_type b.result_type)) c.block.ensures c.action-action.ensures.typed in
     subst (λ (m : Parts). IfOk c.try_block_in.result (λ v. (s : Slow) → IsAt m s → IsVerdictOf s c.args.block.now v c.try_block_in.new.scratch)) c.self.view_is
-    (if_verdict_of _ s c.args.block.now c.in_ok-frozen.frozen c.try_block_in.new.scratch _ c.try_block_in.result k c.requires.2 c.in_ok-frozen.ensures c.len-cells.ensures.typed a
+    (if_verdict_of _ s c.args.block.now c.in_ok-frozen.frozen c.try_block_in.new.scratch _ c.try_block_in.result k c.requires.2 c.in_ok-frozen.ensures c.len-cells.ensures.store.typed a
     (rw c.block-2.ensures at c.try_block_in.ensures.verdict) (rw c.block-2.ensures at c.try_block_in.ensures.reads))

@@ -6,7 +6,7 @@ use Rattle.stm_store.proofs.names.Names.of_table.Goals as goal
 pub add-requires-clause-fresh : goal.add-requires-clause-fresh
 add-requires-clause-fresh c =
     let e = entry_at c.args.table.now c.loop-id.id c.name.result.now c.kind.result c.name.ensures c.kind.ensures in
-    rw c.loop-id.invariant (fresh_name c.args.table.now c.loop-id.id c.name.result.now c.kind.result c.len-id-end.ensures.declared e)
+    rw c.loop-id.invariant (fresh_name c.args.table.now c.loop-id.id c.name.result.now c.kind.result c.len-id-end.ensures.table.declared e)
 
 pub add-requires-clause-above : goal.add-requires-clause-above
 add-requires-clause-above c =
@@ -16,7 +16,7 @@ add-requires-clause-above c =
 pub add-requires-clause-held : goal.add-requires-clause-held
 add-requires-clause-held c =
     let e = entry_at c.args.table.now c.loop-id.id c.name.result.now c.kind.result c.name.ensures c.kind.ensures in
-    rw c.loop-id.invariant (held_kind c.args.table.now c.loop-id.id c.name.result.now c.kind.result c.len-id-end.ensures.declared e)
+    rw c.loop-id.invariant (held_kind c.args.table.now c.loop-id.id c.name.result.now c.kind.result c.len-id-end.ensures.table.declared e)
 
 pub loop-id-preserved : goal.loop-id-preserved
 loop-id-preserved c =

@@ -12,5 +12,5 @@ pub invariant_of-result : goal.invariant_of-result
 invariant_of-result c =
     let t = c.args.table.now in
     let h : length t ≤ c.loop-id.id = omega arith in
-    let i = c.len-id-end.ensures in
+    let i = c.len-id-end.ensures.table in
     rw (opened-whole c.loop-id.cells t c.loop-id.id c.loop-id.invariant.cells h) (opened_store t i.small i.typed i.low)
