@@ -54,9 +54,9 @@ impl Frame {
     /// Writes a reference.
     pub(crate) fn write(&mut self, at: Ref, value: Value) -> Result<(), NoMemory>
         requires { written self.old at value ≢ None }
-        ensures ok { OnOk result (written self.old at value ≡ Some self.new) }
+        ensures done { OnOk result (written self.old at value ≡ Some self.new) }
         ensures made { length self.new.news ≡ length self.old.news }
-        ensures err { OnErr result (self.new ≡ self.old) }
+        ensures unchanged { OnErr result (self.new ≡ self.old) }
     {
         match at {
             Ref::Old(id) => self.writes.put(id, value),
@@ -72,8 +72,8 @@ impl Frame {
     pub(crate) fn make(&mut self, kind: Ty, value: Value) -> Result<Ref, NoMemory>
         requires { length self.old.news < 2 ^ 32 }
         ensures made { IfOk result (λ r. r ≡ Ref.New (length self.old.news)) }
-        ensures ok { OnOk result (self.new ≡ made self.old kind value) }
-        ensures err { OnErr result (self.new ≡ self.old) }
+        ensures done { OnOk result (self.new ≡ made self.old kind value) }
+        ensures unchanged { OnErr result (self.new ≡ self.old) }
     {
         let number = self.news.len() as u32;
         self.news.push((kind, value))?;

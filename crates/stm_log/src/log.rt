@@ -2,9 +2,8 @@
 
 ghost use Rattle.std.specs.Prelude.{◌≡◌, ◌≢◌, ◌∷◌, [], length, drop, ◌<◌, ◌^◌, OnOk, OnErr, IfOk, Ok, Some, None};
 ghost use Rattle.stm_terms.specs.Changes.{no_changes, cell_value, view_at, written, made};
-ghost use Rattle.stm_terms.specs.ReadSet.{looked_at, insert_reads};
 ghost use Rattle.stm_terms.specs.Typing.{Rising};
-ghost use Rattle.stm_log.specs.LogModel.{joined_reads};
+ghost use Rattle.stm_log.specs.LogModel.{joined_reads, with_read, IsWritten};
 
 use crate::frame::{Frame, copy_frames};
 use crate::reads::Reads;
@@ -72,19 +71,13 @@ impl Log {
     }
 
     /// The value of a reference in the top view. A variable of the store that the view has not written is read from the
-    /// store, and is in the set of reads from then on.
-    ///
-    /// All reads of a log are of one content.
+    /// store, and is in the set of reads from then on. An evaluation reads all from one store: nothing here requires that.
     pub fn read(&mut self, frozen: &Frozen, at: Ref) -> Result<Value, NoMemory>
         requires { view_at (cell_value frozen.now) self.old.top at ≢ None }
         ensures value { IfOk result (λ v.
             view_at (cell_value frozen.now) self.old.top at ≡ Some v) }
-        ensures ok { OnOk result (self.new
-            ≡ record self.old {
-              reads = insert_reads (cell_value frozen.now)
-                  (looked_at self.old.top at) self.old.reads;
-            }) }
-        ensures err { OnErr result (self.new ≡ self.old) }
+        ensures done { OnOk result (self.new ≡ with_read (cell_value frozen.now) at self.old) }
+        ensures unchanged { OnErr result (self.new ≡ self.old) }
     {
         match at {
             Ref::Old(id) => match self.top.own(id) {
@@ -102,11 +95,9 @@ impl Log {
     /// Writes a reference in the top view.
     pub fn write(&mut self, at: Ref, value: Value) -> Result<(), NoMemory>
         requires { written self.old.top at value ≢ None }
-        ensures ok { OnOk result (written self.old.top at value ≡ Some self.new.top) }
+        ensures done { OnOk result (IsWritten at value self.old self.new) }
         ensures made { length self.new.top.news ≡ length self.old.top.news }
-        ensures below { self.new.below ≡ self.old.below }
-        ensures reads { self.new.reads ≡ self.old.reads }
-        ensures err { OnErr result (self.new ≡ self.old) }
+        ensures unchanged { OnErr result (self.new ≡ self.old) }
     {
         self.top.write(at, value)
     }
@@ -115,18 +106,18 @@ impl Log {
     pub fn make(&mut self, kind: Ty, value: Value) -> Result<Ref, NoMemory>
         requires { length self.old.top.news < 2 ^ 32 }
         ensures made { IfOk result (λ r. r ≡ Ref.New (length self.old.top.news)) }
-        ensures ok { OnOk result (self.new
+        ensures done { OnOk result (self.new
             ≡ record self.old { top = made self.old.top kind value }) }
-        ensures err { OnErr result (self.new ≡ self.old) }
+        ensures unchanged { OnErr result (self.new ≡ self.old) }
     {
         self.top.make(kind, value)
     }
 
     /// Opens a frame, which sees what the one below it sees.
     pub fn enter(&mut self) -> Result<(), NoMemory>
-        ensures ok { OnOk result (self.new
+        ensures done { OnOk result (self.new
             ≡ record self.old { below = self.old.top ∷ self.old.below }) }
-        ensures err { OnErr result (self.new ≡ self.old) }
+        ensures unchanged { OnErr result (self.new ≡ self.old) }
     {
         let frame = self.top.copy()?;
         self.below.push(frame)?;
@@ -227,11 +218,11 @@ impl Log {
         reads.overwrite(&self.reads);
     }
 
-    /// Adds the reads of a log over the same content.
+    /// Adds the reads of another log. If both read one variable, the value that the other log read stays.
     pub fn join_reads(&mut self, other: &Log) -> Result<(), NoMemory>
-        ensures ok { OnOk result (self.new
+        ensures done { OnOk result (self.new
             ≡ record self.old { reads = joined_reads other.now.reads self.old.reads }) }
-        ensures err { OnErr result (self.new ≡ self.old) }
+        ensures unchanged { OnErr result (self.new ≡ self.old) }
     {
         let mut reads = self.reads.copy()?;
         reads.put_each(other.reads.as_slice())?;

@@ -36,7 +36,7 @@ walk_caught-returns-clause-steps g t c =
     let a = act_of c.args.action.now in
     let mine = c.walk.new.locals.items in
     let mid = c.walk.new.log in
-    let ran = walked_inside S a c.args.locals.now.items c.args.log.now c.enter.new.self c.in_ok-end.end mine mid c.in_ok-enter.ensures.ok c.in_ok-end.ensures in
+    let ran = walked_inside S a c.args.locals.now.items c.args.log.now c.enter.new.self c.in_ok-end.end mine mid c.in_ok-enter.ensures.done c.in_ok-end.ensures in
     catch_steps S a (act_of c.args.handler.now) c.args.locals.now.items c.args.log.now mine mid c.after_action.result c.in_ok-end.end c.after_action.new.locals.items c.after_action.new.log ran c.after_action.ensures.goes_on
 
 pub walk_caught-returns-clause-defined : goal.walk_caught-returns-clause-defined
@@ -45,7 +45,7 @@ walk_caught-returns-clause-defined g t c =
     let a = act_of c.args.action.now in
     let mine = c.walk.new.locals.items in
     let mid = c.walk.new.log in
-    let ran = walked_inside S a c.args.locals.now.items c.args.log.now c.enter.new.self c.in_ok-end.end mine mid c.in_ok-enter.ensures.ok c.in_ok-end.ensures in
+    let ran = walked_inside S a c.args.locals.now.items c.args.log.now c.enter.new.self c.in_ok-end.end mine mid c.in_ok-enter.ensures.done c.in_ok-end.ensures in
     catch_defined S a (act_of c.args.handler.now) c.args.locals.now.items c.args.log.now mine mid c.after_action.result c.in_ok-end.end c.after_action.new.locals.items c.after_action.new.log c.requires.defined ran c.after_action.ensures.goes_on
 
 pub walk_caught-returns-clause-read_set : goal.walk_caught-returns-clause-read_set

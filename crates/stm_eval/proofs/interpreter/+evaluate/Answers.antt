@@ -37,7 +37,7 @@ run_left-returns-clause-steps t c =
     let S = cell_value c.args.frozen.now in
     let a = act_of c.args.left.now in
     let ran = ran_inside S a c.args.locals.now.items c.args.log.now c.enter.new.self c.in_ok-end.end c.evaluate.new.locals.items c.evaluate.new.log
-    c.in_ok-enter.ensures.ok c.in_ok-end.ensures.outcome c.in_ok-end.ensures.reads c.in_ok-end.ensures.made c.in_ok-end.ensures.below c.in_ok-end.ensures.locals in
+    c.in_ok-enter.ensures.done c.in_ok-end.ensures.outcome c.in_ok-end.ensures.reads c.in_ok-end.ensures.made c.in_ok-end.ensures.below c.in_ok-end.ensures.locals in
     or_else_steps S a (act_of c.args.right.now) c.args.locals.now.items c.args.log.now c.evaluate.new.locals.items c.evaluate.new.log c.after_left.result c.in_ok-end.end c.after_left.new.log ran c.after_left.ensures.goes_on
 
 pub run_caught-returns-clause-steps : goal.run_caught-returns-clause-steps
@@ -45,5 +45,5 @@ run_caught-returns-clause-steps t c =
     let S = cell_value c.args.frozen.now in
     let a = act_of c.args.action.now in
     let ran = ran_inside S a c.args.locals.now.items c.args.log.now c.enter.new.self c.in_ok-end.end c.evaluate.new.locals.items c.evaluate.new.log
-    c.in_ok-enter.ensures.ok c.in_ok-end.ensures.outcome c.in_ok-end.ensures.reads c.in_ok-end.ensures.made c.in_ok-end.ensures.below c.in_ok-end.ensures.locals in
+    c.in_ok-enter.ensures.done c.in_ok-end.ensures.outcome c.in_ok-end.ensures.reads c.in_ok-end.ensures.made c.in_ok-end.ensures.below c.in_ok-end.ensures.locals in
     catch_steps S a (act_of c.args.handler.now) c.args.locals.now.items c.args.log.now c.evaluate.new.locals.items c.evaluate.new.log c.after_action.result c.in_ok-end.end c.after_action.new.locals.items c.after_action.new.log ran c.after_action.ensures.goes_on
