@@ -98,10 +98,6 @@ inside_var t c e = inside_var_at t t.refs c refl e
 low_both : (t : Ty) → nat_le t.refs 8 ≡ true → (same_ty t t && nat_le t.refs 8) ≡ true
 low_both t e = rw (ty_refl t) e
 
-if_right : (b : Bool) (o : Option ActionType) (r : ActionType) → b ≡ true → o ≡ Some r → (if b then o else None) ≡ Some r
-if_right true o r p q = q
-if_right false o r p q = absurd (cc)
-
 kind_there : (kinds : TypeEnv) (i : ℕ) (o : Option Ty) (v : ℕ × Ty) → kinds i ≡ o → option_map (λ t. (i, t)) o ≡ Some v → kinds v.0 ≡ Some v.1
 kind_there kinds i (Some t) v e p =
     let q : (i, t) ≡ v = cc in

@@ -31,15 +31,15 @@ CanCheck checker a =
 abbrev pub expr_found : Checker → raw.RawTerm → Result (Term × Ty) TypeFault
 expr_found checker e = checked_expr checker.known.now checker.text.now (scope checker.locals.now) e
 
--- so too of an action
+-- what the check of an action finds, by the same names
 abbrev pub act_found : Checker → raw.RawAct → Result (Act × ActionType) TypeFault
 act_found checker a = checked checker.known.now checker.text.now (scope checker.locals.now) a
 
--- the variables of a tree are noted after those from before
+-- the noted variables, with those of an expression after those from before
 abbrev pub recorded_expr : Checker → Term → List (ℕ × Ty) → List (ℕ × Ty)
 recorded_expr checker e uses = record_uses (known_kinds checker.known.now) (named_in e) uses
 
--- so too those of an action
+-- the noted variables, with those of an action after those from before
 abbrev pub recorded_act : Checker → Act → List (ℕ × Ty) → List (ℕ × Ty)
 recorded_act checker a uses = record_uses (known_kinds checker.known.now) (named a) uses
 
@@ -54,7 +54,7 @@ pub record ChecksExpr {X : Type 0} (checker : Checker) (e : raw.RawTerm) (view :
   pub uses : IfOk result (λ r. after ≡ recorded_expr checker (view r.0) before)
   pub low : IfOk result (λ r. r.1.refs ≤ most_refs + 1)
 
--- so too of an action
+-- the check of an action, seen by view: what it returns, which variables it notes, and how deep the type of its result is
 pub record ChecksAction {X : Type 0} (checker : Checker) (a : raw.RawAct) (view : X → Act)
     (result : Result (X × Option Ty) TypeFault) (before after : List (ℕ × Ty)) : Type 0 where
   pub says : AnswersUnless NoMemory (λ r. (view r.0, result_type r.1)) result (act_found checker a)

@@ -28,7 +28,7 @@ module _ (known : List Named) (text : List ℕ) where
   IsTerm ns (raw.bin op a b) (bin or x y) = (op ≡ or) × IsTerm ns a x × IsTerm ns b y
   IsTerm ns (raw.bin op a b) x = ⊥
 
-  -- so too of an action; the type of a new variable is left open
+  -- an action is this tree, with each name resolved; the type of a new variable is left open
   abbrev pub IsAct : List (List ℕ) → raw.RawAct → Act → Type 0
   IsAct ns (raw.return e) (return x) = IsTerm ns e x
   IsAct ns (raw.read e) (read x) = IsTerm ns e x

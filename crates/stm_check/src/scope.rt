@@ -36,7 +36,7 @@ pub(crate) fn count(locals: &Scope) -> u32
 #[tactic(auto, unfolding(crate::specs::Scopes::bit_of))]
 fn bit_of(name: &str) -> u32
     ensures bit { result ≡ bit_of name.now }
-    ensures low { result < 64 }
+    ensures few { result < 64 }
 {
     match name.as_bytes() {
         [] => 0,
@@ -76,7 +76,7 @@ fn walk(locals: &Scope, name: &str) -> Option<(u32, Ty)>
     requires kept { ScopeIsConsistent locals.now }
     requires shallow { ScopeHasFewRefs (scope locals.now) }
     ensures found { result ≡ innermost name.now (scope locals.now) }
-    ensures low { IfSome result (λ l. l.1.refs ≤ most_refs + 1) }
+    ensures few { IfSome result (λ l. l.1.refs ≤ most_refs + 1) }
 {
     match locals {
         Scope::Empty => None,
@@ -101,7 +101,7 @@ pub(crate) fn find_local(locals: &Scope, name: &str) -> Option<(u32, Ty)>
     requires kept { ScopeIsConsistent locals.now }
     requires shallow { ScopeHasFewRefs (scope locals.now) }
     ensures found { result ≡ innermost name.now (scope locals.now) }
-    ensures low { IfSome result (λ l. l.1.refs ≤ most_refs + 1) }
+    ensures few { IfSome result (λ l. l.1.refs ≤ most_refs + 1) }
 {
     if lacks(locals, name) {
         None
