@@ -1,4 +1,5 @@
 pub mod ActionsSound
+pub mod BlocksOfChecks
 pub mod CheckComplete
 pub mod CheckExact
 pub mod CheckTakesNoMemory

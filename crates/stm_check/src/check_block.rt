@@ -7,6 +7,7 @@ ghost use Rattle.stm_terms.specs.Ast.{act_of};
 ghost use Rattle.stm_terms.specs.Typing.{result_type, uses_of};
 ghost use Rattle.stm_terms.specs.UnlessNoMemory.{AnswersUnless};
 ghost use Rattle.stm_check.specs.CheckFunction.{checked};
+ghost use Rattle.stm_check.specs.CheckedBlock.{checked_block};
 ghost use Rattle.stm_store.specs.Naming.{known_kinds};
 
 use crate::checker::Checker;
@@ -29,7 +30,7 @@ fn check_tree(
 ) -> Result<(Action, Option<Ty>, Vec<(u32, Ty)>), TypeFault>
     requires ascii { IsAscii text.now }
     requires spans { SpansWithin (length text.now) (raw_act_of raw.now) }
-    requires small { actions (raw_act_of raw.now) ≤ 2 ^ 32 }
+    requires few { actions (raw_act_of raw.now) ≤ 2 ^ 32 }
     ensures says { AnswersUnless TypeFault.NoMemory (λ r. (act_of r.0, result_type r.1)) result
         (checked known.now text.now [] (raw_act_of raw.now)) }
     ensures uses { IfOk result (λ r. r.2.items ≡ uses_of (known_kinds known.now) (act_of r.0)) }
@@ -54,11 +55,9 @@ pub(crate) fn check_raw(
 ) -> Result<Typed, TypeFault>
     requires ascii { IsAscii (string_bytes text) }
     requires spans { SpansWithin (length (string_bytes text)) (raw_act_of raw.now) }
-    requires small { actions (raw_act_of raw.now) ≤ 2 ^ 32 }
-    ensures says { AnswersUnless TypeFault.NoMemory (λ t. (t.tree, result_type t.result_type)) result
-        (checked known.now (string_bytes text) [] (raw_act_of raw.now)) }
-    ensures uses { IfOk result (λ t. t.uses ≡ uses_of (known_kinds known.now) t.tree) }
-    ensures text { IfOk result (λ t. t.text ≡ string_bytes text) }
+    requires few { actions (raw_act_of raw.now) ≤ 2 ^ 32 }
+    ensures { AnswersUnless TypeFault.NoMemory (λ b. b) result
+        (checked_block known.now (string_bytes text) (raw_act_of raw.now)) }
 {
     let (action, kind, uses) = check_tree(alloc, known, text.as_str(), raw)?;
     Ok(Typed::of_checked(action, text, kind, uses))
@@ -70,10 +69,8 @@ pub(crate) fn check_raw(
 /// among the names. Where locals have one name, the innermost is meant; a local hides a declared variable (docs/LANGUAGE.md,
 /// "Types"). The fault is the one of docs/LANGUAGE.md, "Type errors", or `NoMemory` if memory ran out before it was found.
 pub fn check(alloc: Global, known: &Names, raw: Raw) -> Result<Typed, TypeFault>
-    ensures says { AnswersUnless TypeFault.NoMemory (λ t. (t.tree, result_type t.result_type)) result
-        (checked known.now raw.text [] raw.tree) }
-    ensures uses { IfOk result (λ t. t.uses ≡ uses_of (known_kinds known.now) t.tree) }
-    ensures text { IfOk result (λ t. t.text ≡ raw.text) }
+    ensures { AnswersUnless TypeFault.NoMemory (λ b. b) result
+        (checked_block known.now raw.text raw.tree) }
 {
     let (text, action) = raw.into_parts();
     check_raw(alloc, known, text, &action)

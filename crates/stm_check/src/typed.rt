@@ -79,7 +79,7 @@ impl Typed {
     ) -> Typed
         requires typed { action_type (kinds_in uses.items) [] (act_of action)
             ≡ Some (type_of_result result_type) }
-        requires small { makes (act_of action) ≤ 2 ^ 32 }
+        requires few { makes (act_of action) ≤ 2 ^ 32 }
         ensures { result ≡ record {
           tree = act_of action;
           text = string_bytes text;
@@ -100,7 +100,7 @@ impl Typed {
         ensures action { act_of result.now ≡ self.now.tree }
         ensures typed { action_type (kinds_in self.now.uses) [] self.now.tree
             ≡ Some (type_of_result self.now.result_type) }
-        ensures small { makes self.now.tree ≤ 2 ^ 32 }
+        ensures few { makes self.now.tree ≤ 2 ^ 32 }
     {
         &self.action
     }
@@ -126,7 +126,7 @@ impl Typed {
         self.uses.as_slice()
     }
 
-    /// Whether two blocks are one: in tree, text, type of the result, and variables.
+    /// Whether two blocks are equal: in tree, text, type of the result, and variables.
     pub fn same(&self, other: &Typed) -> bool
         ensures { IsTrue result ↔ (self.now ≡ other.now) }
     {
@@ -137,7 +137,7 @@ impl Typed {
         trees && texts && results && uses
     }
 
-    /// Whether two blocks have one tree.
+    /// Whether two blocks have the same tree.
     pub fn same_tree(&self, other: &Typed) -> bool
         ensures { IsTrue result ↔ (self.now.tree ≡ other.now.tree) }
     {
@@ -164,8 +164,8 @@ impl Model for SharedBlock {
 }
 
 impl SharedBlock {
-    /// Makes a block that many may hold.
     // A block is moved by value; a call that isn't inlined copies it.
+    /// Makes a block that many may hold.
     #[inline(always)]
     pub fn new(alloc: Global, block: Typed) -> Result<SharedBlock, NoMemory>
         ensures { IfOk result (λ s. s ≡ block) }

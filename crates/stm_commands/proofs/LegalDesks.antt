@@ -16,7 +16,7 @@ use Rattle.stm_desk.proofs.Starts.{start_possible}
 use Rattle.stm_source.specs.declared.refusal.Refusal.{Refusal}
 use Rattle.stm_source.specs.LaterNames.{NamesFollow}
 use Rattle.stm_source.proofs.LaterNames.{same_names, names_trans}
-use Rattle.stm_source.proofs.PreparedBlocks.{IsCovered}
+use Rattle.stm_source.specs.CompiledBlock.{UsesAreNamed}
 use Rattle.stm_event_lines.proofs.LaterNames.{names_after_event}
 use Rattle.stm_commands.specs.OpenInvariant.{HasGrown}
 
@@ -53,7 +53,7 @@ grown_possible d e g =
 -- ---- names
 -- the present store has the variables that a block over the present names names
 pub covered_now : (d : DeskView) (names : List Named) (r : Result Block Refusal) → names ≡ (state_of d).names → MayStart d.table d.checkpoint → IsLegalFrom (start_state d) d.history
-    → IfOk r (λ b. IsCovered names b) → IfOk r (λ b. Covers (plains (state_of d).store) b.uses)
+    → IfOk r (UsesAreNamed names) → IfOk r (λ b. Covers (plains (state_of d).store) b.uses)
 covered_now d names (Ok b) e start legal h =
     h (plains (state_of d).store) (subst (λ (ns : List Named). Covers (plains (state_of d).store) (named_uses ns)) (sym e) (desk_possible d start legal).named)
 covered_now d names (Err x) e start legal h = tt

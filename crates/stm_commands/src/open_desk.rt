@@ -2,14 +2,12 @@
 
 ghost use Rattle.std.specs.Prelude.{◌≡◌, ◌≤◌, [], IfOk};
 ghost use Rattle.std.specs.Option.{option_copied};
-ghost use Rattle.stm_terms.specs.UnlessNoMemory.{AnswersExcept};
 ghost use Rattle.stm_store.specs.Cells.{Covers, plains};
 ghost use Rattle.stm_terms.specs.Limits.{max_events};
 ghost use Rattle.stm_events.specs.States.{IsLegalFrom};
 ghost use Rattle.stm_machine.specs.Checkpoints.{MayStart};
 ghost use Rattle.stm_desk.specs.DeskView.{start_state};
-ghost use Rattle.stm_source.specs.CompiledBlock.{compiled_block};
-ghost use Rattle.stm_source.specs.OutOfMemory.{IsOutOfMemory};
+ghost use Rattle.stm_source.specs.CompiledBlock.{compiled_block, CompilesTo};
 ghost use Rattle.stm_commands.specs.OpenDesk.{opened_desk, known, present};
 
 use crate::jobs::KeptJob;
@@ -137,8 +135,7 @@ impl OpenDesk {
     /// The block of a text over the present names. The present store has the variables that it names.
     pub fn block(&mut self, alloc: Global, text: &str) -> Result<SharedBlock, Refusal>
         ensures same { self.new ≡ self.old }
-        ensures block { AnswersExcept IsOutOfMemory (λ b. b) result
-            (compiled_block (known self.old) text.now) }
+        ensures block { CompilesTo result (compiled_block (known self.old) text.now) }
         ensures covered { IfOk result (λ b. Covers (plains (present self.old)) b.uses) }
     {
         self.cache.block(alloc, self.desk.names(), text)

@@ -7,12 +7,13 @@ use Rattle.stm_parse.specs.declared.fault.ParseFault.{ParseFault}
 use Rattle.stm_parse.specs.ParseFunction.{parsed_block}
 use Rattle.stm_store.specs.Naming.{Named, known_kinds}
 use Rattle.stm_check.specs.CheckFunction.{checked}
+use Rattle.stm_check.specs.CheckedBlock.{given_type}
 use Rattle.stm_check.specs.TypedBlock.{Block}
 use Rattle.stm_check.specs.declared.fault.TypeFault.{TypeFault}
 use Rattle.stm_check.proofs.TypedBlockInvariant.{kept_type}
 use Rattle.stm_events.specs.Laws.{IsWellTyped}
 use Rattle.stm_event_lines.specs.CheckedBlocks.{CheckedAreWellTyped}
-use Rattle.stm_source.specs.CompiledBlock.{given_type, block_if_typed, block_if_parsed, compiled_block}
+use Rattle.stm_source.specs.CompiledBlock.{block_if_typed, block_if_parsed, compiled_block}
 
 block_by : (known : List Named) (text : List ℕ) (tree : raw.RawAct) (block : Block) (o : Result (Act × ActionType) TypeFault) → checked known text [] tree ≡ o → block_if_typed known text o ≡ Ok block → IsWellTyped block
 block_by known text tree block (Err f) c e = cc

@@ -12,6 +12,7 @@ use Rattle.stm_terms.specs.declared.verdicts.Verdict.{Verdict}
 use Rattle.stm_parse.specs.declared.fault.ParseFault.{ParseFault}
 use Rattle.stm_parse.specs.ParseFunction.{parsed_block}
 use Rattle.stm_check.specs.CheckFunction.{checked}
+use Rattle.stm_check.specs.CheckedBlock.{given_type}
 use Rattle.stm_check.specs.TypedBlock.{Block}
 use Rattle.stm_check.specs.declared.fault.TypeFault.{TypeFault}
 use Rattle.stm_store.specs.Naming.{Named, known_kinds}
@@ -38,7 +39,7 @@ use Rattle.stm_machine.specs.Checkpoints.{CheckpointView, waiter_of, block_of_wa
 use Rattle.stm_machine.specs.declared.checkpoint.CheckpointBlock.{CheckpointBlock}
 use Rattle.stm_machine.specs.JobsHandedOut.{sent}
 use Rattle.stm_source.proofs.LaterNames.{checked_blocks_stay}
-use Rattle.stm_source.specs.CompiledBlock.{given_type, block_if_typed, block_if_parsed, compiled_block}
+use Rattle.stm_source.specs.CompiledBlock.{block_if_typed, block_if_parsed, compiled_block}
 use Rattle.stm_events.specs.SlowAtomically.{install_at_once}
 use Rattle.stm_desk.specs.declared.errors.AtomicError.{AtomicError}
 use Rattle.stm_desk.specs.Refusals.{submit_refusal, late_declare_refusal, atomic_refusal, finish_refusal, cancel_refusal, label_refusal}

@@ -8,10 +8,11 @@ use Rattle.stm_parse.specs.declared.fault.ParseFault.{ParseFault}
 use Rattle.stm_parse.specs.ParseFunction.{parsed_block}
 use Rattle.stm_store.specs.Naming.{Named}
 use Rattle.stm_check.specs.CheckFunction.{checked}
+use Rattle.stm_check.specs.CheckedBlock.{given_type}
 use Rattle.stm_check.specs.TypedBlock.{Block}
 use Rattle.stm_check.specs.declared.fault.TypeFault.{TypeFault}
 use Rattle.stm_check.proofs.LaterNames.{checked_stay}
-use Rattle.stm_source.specs.CompiledBlock.{given_type, block_if_typed, block_if_parsed, compiled_block}
+use Rattle.stm_source.specs.CompiledBlock.{block_if_typed, block_if_parsed, compiled_block}
 use Rattle.stm_source.specs.LaterNames.{NamesFollow, CheckedBlocksStay}
 
 typed_stays : (few more : List Named) (text : List ℕ) (tree : raw.RawAct) (block : Block) (o : Result (Act × ActionType) TypeFault) → checked few text [] tree ≡ o → block_if_typed few text o ≡ Ok block

@@ -1,3 +1,4 @@
+mod CompiledTexts
 pub mod LaterNames
 mod OneAnswer
 pub mod PreparedBlocks

@@ -3,17 +3,17 @@ use Rattle.std.proofs.Common.{◌≡◌, ℕ, zero, suc, ◌<◌, List, [], ◌�
 use Rattle.stm_terms.specs.Ast.{Act}
 use Rattle.stm_terms.specs.ParsedAst as raw
 use Rattle.stm_terms.specs.Typing.{ActionType, uses_of}
-use Rattle.stm_terms.specs.UnlessNoMemory.{AnswersExcept}
 use Rattle.stm_parse.specs.declared.fault.ParseFault.{ParseFault}
 use Rattle.stm_parse.specs.ParseFunction.{parsed_block}
 use Rattle.stm_check.specs.TypedBlock.{Block}
 use Rattle.stm_check.specs.CheckFunction.{checked}
+use Rattle.stm_check.specs.CheckedBlock.{given_type}
 use Rattle.stm_check.specs.declared.fault.TypeFault.{TypeFault}
 use Rattle.stm_terms.specs.declared.kinds.Ty.{Ty}
 use Rattle.stm_terms.specs.declared.values.Value.{Value}
 use Rattle.stm_store.specs.Cells.{Covers}
 use Rattle.stm_store.specs.Naming.{Named, named_uses, known_kinds}
-use Rattle.stm_source.specs.CompiledBlock.{given_type, block_if_typed, block_if_parsed, compiled_block}
+use Rattle.stm_source.specs.CompiledBlock.{block_if_typed, block_if_parsed, compiled_block, CompilesTo, UsesAreNamed}
 use Rattle.stm_source.specs.declared.refusal.Refusal.{Refusal}
 use Rattle.stm_source.specs.OutOfMemory.{IsOutOfMemory}
 use Rattle.stm_source.specs.BlockCache.{IsBlockOf, IsPrepared, ArePrepared}
@@ -56,16 +56,12 @@ prepared_set known (o ∷ os) zero b h p = (h, p.1)
 prepared_set known (o ∷ os) (suc n) b h p = (p.0, prepared_set known os n b h p.1)
 
 -- one more hold on the block of a text
-pub answers_shared : (known : List Named) (text : List ℕ) (b : Block) (r : Result Block Refusal) → IsBlockOf known text b → IfOk r (λ x. x ≡ b) → IfErr r IsOutOfMemory → AnswersExcept IsOutOfMemory (λ x. x) r (compiled_block known text)
+pub answers_shared : (known : List Named) (text : List ℕ) (b : Block) (r : Result Block Refusal) → IsBlockOf known text b → IfOk r (λ x. x ≡ b) → IfErr r IsOutOfMemory → CompilesTo r (compiled_block known text)
 answers_shared known text b (Ok x) h p q = h.0 ∙ ap (λ (y : Block). Ok y) (sym p)
 answers_shared known text b (Err e) h p q = λ n. absurd (n q)
 
--- the variables that a block names are in each store with the named ones
-abbrev pub IsCovered : List Named → Block → Type 0
-IsCovered known b = (cells : List (Ty × Value)) → Covers cells (named_uses known) → Covers cells b.uses
-
-pub covers_shared : (known : List Named) (text : List ℕ) (b : Block) (r : Result Block Refusal) → IsBlockOf known text b → IfOk r (λ x. x ≡ b) → IfOk r (λ x. IsCovered known x)
-covers_shared known text b (Ok x) h p = subst (IsCovered known) (sym p) h.1
+pub covers_shared : (known : List Named) (text : List ℕ) (b : Block) (r : Result Block Refusal) → IsBlockOf known text b → IfOk r (λ x. x ≡ b) → IfOk r (λ x. UsesAreNamed known x)
+covers_shared known text b (Ok x) h p = subst (UsesAreNamed known) (sym p) h.1
 covers_shared known text b (Err e) h p = tt
 
 -- ---- more names

@@ -1,16 +1,12 @@
 -- Blocks that were checked before, and are kept by their texts.
 use Rattle.std.specs.Prelude.{◌≡◌, ℕ, List, [], ◌∷◌, Option, Some, None, Ok}
-use Rattle.stm_terms.specs.declared.kinds.Ty.{Ty}
-use Rattle.stm_terms.specs.declared.values.Value.{Value}
 use Rattle.stm_check.specs.TypedBlock.{Block}
-use Rattle.stm_store.specs.Cells.{Covers}
-use Rattle.stm_store.specs.Naming.{Named, named_uses}
-use Rattle.stm_source.specs.CompiledBlock.{compiled_block}
+use Rattle.stm_store.specs.Naming.{Named}
+use Rattle.stm_source.specs.CompiledBlock.{compiled_block, UsesAreNamed}
 
 -- the block is that of the text over these names, and each store that has the named variables has those that it names
 abbrev pub IsBlockOf : List Named → List ℕ → Block → Type 0
-IsBlockOf known text b =
-    (compiled_block known text ≡ Ok b) × ((cells : List (Ty × Value)) → Covers cells (named_uses known) → Covers cells b.uses)
+IsBlockOf known text b = (compiled_block known text ≡ Ok b) × UsesAreNamed known b
 
 -- a block that is kept is that of its text
 abbrev pub IsPrepared : List Named → Option Block → Type 0

@@ -1,14 +1,8 @@
 //! Blocks from their texts.
 
-ghost use Rattle.std.specs.Prelude.{◌≡◌, IfOk, List, Result};
-ghost use Rattle.stm_terms.specs.UnlessNoMemory.{AnswersExcept};
-ghost use Rattle.stm_terms.specs.declared.kinds.Ty.{Ty};
-ghost use Rattle.stm_terms.specs.declared.values.Value.{Value};
-ghost use Rattle.stm_store.specs.Cells.{Covers};
-ghost use Rattle.stm_store.specs.Naming.{named_uses};
+ghost use Rattle.std.specs.Prelude.{◌≡◌, IfOk, Result};
 ghost use Rattle.stm_check.specs.TypedBlock.{Block};
-ghost use Rattle.stm_source.specs.CompiledBlock.{compiled_block, block_if_any, block_of_text};
-ghost use Rattle.stm_source.specs.OutOfMemory.{IsOutOfMemory};
+ghost use Rattle.stm_source.specs.CompiledBlock.{compiled_block, block_if_any, block_of_text, CompilesTo, UsesAreNamed};
 ghost use Rattle.stm_source.specs.declared.refusal.Refusal.{Refusal};
 
 use crate::refusal::Refusal;
@@ -18,14 +12,13 @@ use stm_parse::{ParseFault, parse_block};
 use stm_store::{DeclareError, Names};
 use stm_terms::NoMemory;
 
-/// The block of a text. Each store that has the named variables has those that it names.
 // A block is moved by value; a call that isn't inlined copies it.
+/// The block of a text. Each store that has the named variables has those that it names.
 #[inline(always)]
-#[tactic(auto, using(crate::proofs::UsesAreCovered::named_cover), unfolding(crate::specs::CompiledBlock::compiled_block))]
+#[tactic(auto, unfolding(crate::specs::CompiledBlock::compiled_block))]
 pub fn compile_block(alloc: Global, known: &Names, text: &str) -> Result<Typed, Refusal>
-    ensures block { AnswersExcept IsOutOfMemory (λ b. b) result
-        (compiled_block known.now text.now) }
-    ensures covered { IfOk result (λ b. (cells : List (Ty × Value)) → Covers cells (named_uses known.now) → Covers cells b.uses) }
+    ensures block { CompilesTo result (compiled_block known.now text.now) }
+    ensures covered { IfOk result (UsesAreNamed known.now) }
 {
     let raw = parse_block(alloc, text)?;
     let block = check(alloc, known, raw)?;
@@ -34,9 +27,8 @@ pub fn compile_block(alloc: Global, known: &Names, text: &str) -> Result<Typed, 
 
 /// The block of a text, which many may hold.
 pub fn compile_shared(alloc: Global, known: &Names, text: &str) -> Result<SharedBlock, Refusal>
-    ensures block { AnswersExcept IsOutOfMemory (λ b. b) result
-        (compiled_block known.now text.now) }
-    ensures covered { IfOk result (λ b. (cells : List (Ty × Value)) → Covers cells (named_uses known.now) → Covers cells b.uses) }
+    ensures block { CompilesTo result (compiled_block known.now text.now) }
+    ensures covered { IfOk result (UsesAreNamed known.now) }
 {
     let block = compile_block(alloc, known, text)?;
     match SharedBlock::new(alloc, block) {
@@ -49,7 +41,7 @@ pub fn compile_shared(alloc: Global, known: &Names, text: &str) -> Result<Shared
 pub(crate) fn unless_refused(
     block: Result<SharedBlock, Refusal>,
 ) -> Result<Option<SharedBlock>, NoMemory>
-    ensures { (r : Result Block Refusal) → AnswersExcept IsOutOfMemory (λ b. b) block r
+    ensures { (r : Result Block Refusal) → CompilesTo block r
         → IfOk result (λ o. o ≡ block_if_any r) }
 {
     match block {

@@ -2,12 +2,8 @@
 
 ghost use Rattle.std.specs.Prelude.{◌≡◌, ◌<◌, ◌↔◌, List, IsTrue, IfOk, IfErr, IfSome};
 ghost use Rattle.std.specs.Option.{option_copied};
-ghost use Rattle.stm_terms.specs.UnlessNoMemory.{AnswersExcept};
-ghost use Rattle.stm_terms.specs.declared.kinds.Ty.{Ty};
-ghost use Rattle.stm_terms.specs.declared.values.Value.{Value};
-ghost use Rattle.stm_store.specs.Cells.{Covers};
-ghost use Rattle.stm_store.specs.Naming.{Named, named_uses};
-ghost use Rattle.stm_source.specs.CompiledBlock.{compiled_block, block_of_text};
+ghost use Rattle.stm_store.specs.Naming.{Named};
+ghost use Rattle.stm_source.specs.CompiledBlock.{compiled_block, block_of_text, CompilesTo, UsesAreNamed};
 ghost use Rattle.stm_source.specs.OutOfMemory.{IsOutOfMemory};
 ghost use Rattle.stm_source.specs.BlockCache.{IsBlockOf, ArePrepared};
 ghost use Rattle.stm_source.specs.LaterNames.{NamesFollow};
@@ -244,9 +240,8 @@ fn prepared_block(
 ) -> Result<SharedBlock, Refusal>
     requires { ArePrepared known.now blocks.old }
     ensures kept { ArePrepared known.now blocks.new }
-    ensures block { AnswersExcept IsOutOfMemory (λ b. b) result
-        (compiled_block known.now text.now) }
-    ensures covered { IfOk result (λ b. (cells : List (Ty × Value)) → Covers cells (named_uses known.now) → Covers cells b.uses) }
+    ensures block { CompilesTo result (compiled_block known.now text.now) }
+    ensures covered { IfOk result (UsesAreNamed known.now) }
 {
     let hash = hash_of(text);
     let first = first_way(hash);
@@ -324,9 +319,8 @@ impl BlockCache {
     ) -> Result<SharedBlock, Refusal>
         requires { NamesFollow self.old known.now }
         ensures known { self.new ≡ known.now }
-        ensures block { AnswersExcept IsOutOfMemory (λ b. b) result
-            (compiled_block known.now text.now) }
-        ensures covered { IfOk result (λ b. (cells : List (Ty × Value)) → Covers cells (named_uses known.now) → Covers cells b.uses) }
+        ensures block { CompilesTo result (compiled_block known.now text.now) }
+        ensures covered { IfOk result (UsesAreNamed known.now) }
     {
         self.follow(known);
         prepared_block(
@@ -339,7 +333,7 @@ impl BlockCache {
         )
     }
 
-    /// The same; none if the text is refused.
+    /// The block of a text as `block` gives it; none if the text is refused.
     pub fn block_of(
         &mut self,
         alloc: Global,

@@ -1,6 +1,18 @@
+use Rattle.std.proofs.Common.{rules}
+use Rattle.stm_check.proofs.BlocksOfChecks.{checked_uses}
+use Rattle.stm_source.proofs.CompiledTexts.{typed_block, mistyped_block}
 use Rattle.stm_source.proofs.UsesAreCovered.{named_cover}
 use Rattle.stm_source.proofs.block.compile_block.Goals as goal
 
+pub returns-clause-block : goal.returns-clause-block
+returns-clause-block c =
+    typed_block c.args.known.now c.args.text.now _ _ _ c.in_ok-raw.ensures.text c.in_ok-raw.ensures.answer c.in_ok-block.ensures
+
+pub returns-in_err-block-clause-block : goal.returns-in_err-block-clause-block
+returns-in_err-block-clause-block c =
+    search (mistyped_block c.args.known.now c.args.text.now _ _ _ c.in_ok-raw.ensures.text c.in_ok-raw.ensures.answer c.in_err-block.ensures, rules)
+
 pub returns-clause-covered : goal.returns-clause-covered
 returns-clause-covered c = λ cells k.
-    named_cover c.args.known.now c.in_ok-block.block.tree c.in_ok-block.block.uses cells c.in_ok-block.ensures.uses k
+    let uses = checked_uses _ _ _ _ c.in_ok-block.ensures in
+    named_cover c.args.known.now c.in_ok-block.block.tree c.in_ok-block.block.uses cells uses k
