@@ -1,6 +1,5 @@
 use Rattle.std.proofs.Common.{rules}
-use Rattle.stm_check.proofs.BlocksOfChecks.{checked_uses}
-use Rattle.stm_source.proofs.CompiledTexts.{typed_block, mistyped_block}
+use Rattle.stm_source.proofs.CompiledTexts.{typed_block, mistyped_block, block_uses}
 use Rattle.stm_source.proofs.UsesAreCovered.{named_cover}
 use Rattle.stm_source.proofs.block.compile_block.Goals as goal
 
@@ -14,5 +13,5 @@ returns-in_err-block-clause-block c =
 
 pub returns-clause-covered : goal.returns-clause-covered
 returns-clause-covered c = λ cells k.
-    let uses = checked_uses _ _ _ _ c.in_ok-block.ensures in
+    let uses = block_uses c.args.known.now c.args.text.now _ _ _ c.in_ok-raw.ensures.text c.in_ok-raw.ensures.answer c.in_ok-block.ensures in
     named_cover c.args.known.now c.in_ok-block.block.tree c.in_ok-block.block.uses cells uses k
