@@ -1,5 +1,5 @@
 -- A text appended part by part.
-use Rattle.std.proofs.Common.{◌≡◌, ℕ, List, ◌++◌, Result, Ok, Err, ◌∙◌, ap, sym, append_assoc, append-nil, codes, refl, sub-one, ◌-◌, zero, suc, [], ◌∷◌, length, take, drop, subst, get_or, ◌<◌, ◌≤◌, ◌+◌, add-one, arith}
+use Rattle.std.proofs.Common.{◌≡◌, ℕ, List, ◌++◌, Result, Ok, Err, ◌∙◌, ap, sym, append_assoc, codes, refl, sub-one, ◌-◌, zero, suc, [], ◌∷◌, length, take, drop, subst, get_or, ◌<◌, ◌≤◌, ◌+◌, add-one, arith}
 use Rattle.std.proofs.Math.Seq.{drop-cons, take-length}
 use Rattle.stm_terms.specs.declared.kinds.Base.{Base}
 use Rattle.stm_terms.specs.Texts.{AppendsText, AppendsPart, refs_text, spaced, list_text}
@@ -35,12 +35,9 @@ list_text-first text (y ∷ xs) x h =
     let all : suc (length xs) - 1 ≡ length xs = omega arith in
     ap (λ l. text y ++ spaced text l) (sym (ap (λ n. take n xs) all ∙ take-length xs))
 
--- the same two, of a text in another grouping
+-- a text in two parts, in another grouping of them
 pub AppendsText-more_of : {E : Type 0} (r : Result (Unit {0}) E) (a b c t u text : List ℕ) → b ≡ a ++ t → AppendsText r b c u → text ≡ t ++ u → AppendsText r a c text
 AppendsText-more_of r a b c t u text e h same = subst (AppendsText r a c) (sym same) (AppendsText-more r a b c t u e h)
 
 pub AppendsText-fails_of : {E : Type 0} (r : Result (Unit {0}) E) (y : E) (a b c t u v text : List ℕ) → r ≡ Err y → b ≡ a ++ t → AppendsPart b c u → text ≡ (t ++ u) ++ v → AppendsText r a c text
 AppendsText-fails_of r y a b c t u v text e eq h same = subst (AppendsText r a c) (sym same) (AppendsText-fails r y a b c t u v e eq h)
-
-pub AppendsPart-none : (b c u : List ℕ) → c ≡ b → AppendsPart b c u
-AppendsPart-none b c u e = ([], (u, refl), e ∙ sym (append-nil b))

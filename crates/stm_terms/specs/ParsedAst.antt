@@ -69,7 +69,7 @@ text_at text span = slice_range text span.start span.end
 abbrev pub IsSpan : ℕ → ℕ → ℕ → Type 0
 IsSpan n from to = (from ≤ to) × (to ≤ n)
 
--- each name is a span of a text of n bytes
+-- each name of an expression is a span of a text of n bytes
 abbrev pub NamesWithin : ℕ → RawTerm → Type 0
 NamesWithin n (int k at) = Unit {0}
 NamesWithin n (truth b at) = Unit {0}
@@ -77,7 +77,7 @@ NamesWithin n (unit at) = Unit {0}
 NamesWithin n (name span) = IsSpan n span.start span.end
 NamesWithin n (bin op a b) = NamesWithin n a × NamesWithin n b
 
--- and so is each name of an action
+-- each name of an action is a span of a text of n bytes
 abbrev pub SpansWithin : ℕ → RawAct → Type 0
 SpansWithin n (return e) = NamesWithin n e
 SpansWithin n (read e) = NamesWithin n e

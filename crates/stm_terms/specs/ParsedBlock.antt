@@ -68,7 +68,7 @@ boxed_term (unit at) = E.Unit at
 boxed_term (name span) = E.Name span
 boxed_term (bin op a b) = E.Bin' op nowhere (boxed_term a) nowhere (boxed_term b)
 
--- so too an action
+-- an action with its parts in such boxes
 abbrev boxed : RawAct → RawAction
 boxed (return e) = A.Return (boxed_term e)
 boxed (read e) = A.Read (boxed_term e)

@@ -44,7 +44,7 @@ term_back (local i) = refl
 term_back (global i) = refl
 term_back (bin op a b) = ap₂ (λ x y. bin op x y) (term_back a) (term_back b)
 
--- and so is an action
+-- out of its boxes an action is the one that was put in
 pub act_back : (a : Act) → act_of (boxed a) ≡ a
 act_back (return e) = ap return (term_back e)
 act_back (read e) = ap read (term_back e)

@@ -167,7 +167,7 @@ named_in (local i) = []
 named_in (global i) = i ∷ []
 named_in (bin op a b) = named_in a ++ named_in b
 
--- the variables that an action names, so too
+-- the variables that an action names, in order, repeats and all
 abbrev pub named : Act → List ℕ
 named (return e) = named_in e
 named (read e) = named_in e

@@ -11,7 +11,7 @@ abbrev pub AnswersUnless : {X Y E : Type 0} → E → (X → Y) → Result X E �
 AnswersUnless no_memory view (Ok x) answer = answer ≡ Ok (view x)
 AnswersUnless no_memory view (Err e) answer = e ≢ no_memory → answer ≡ Err e
 
--- so too if several errors say that memory ran out
+-- the call answers as its definition does, if several errors say that memory ran out
 abbrev pub AnswersExcept : {X Y E : Type 0} → (E → Type 0) → (X → Y) → Result X E → Result Y E → Type 0
 AnswersExcept OutOfMemory view (Ok x) answer = answer ≡ Ok (view x)
 AnswersExcept OutOfMemory view (Err e) answer = ¬ OutOfMemory e → answer ≡ Err e

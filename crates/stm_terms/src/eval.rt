@@ -10,7 +10,7 @@ use crate::values::{Fault, Ref, Value};
 
 /// The value of an expression that has a meaning under these locals, or its overflow.
 ///
-/// `&&` and `||` skip the right side where the left one decides.
+/// `&&` and `||` skip the right side if the left one decides.
 pub fn eval_expr(expr: &Expr, locals: &[Value]) -> Result<Value, Fault>
     requires { value (term_of expr.now) locals.now ≢ None }
     ensures { value (term_of expr.now) locals.now ≡ Some result }

@@ -1,5 +1,10 @@
 //! The language of atomic blocks: types, values, trees and verdicts, the value of an expression, and printed texts.
 //!
+//! `kinds` has the types, `values` the values, `expr` and `action` the trees, and `verdicts` with `lists` what a block comes to; `same` and
+//! `same_verdict` compare trees and verdicts. `raw` has the trees as parsed, and `raw_block` the parsed block, which the parser makes and
+//! the check takes. `eval` evaluates expressions, `naming` says which words are names, `limits` how many of each there may be, and `text`
+//! prints types, values and verdicts.
+//!
 //! The meaning of a block, which everything above is proved against, is in `specs/`: `Ast` (the trees that the
 //! definitions speak of), `Value` (the value of an expression), `Changes` (what a block sees and has changed) and `Semantics`
 //! (what an action does), `ReadSet` (what it reads), `Verdict` (what a block does on a store) and `Typing` (the types of
@@ -7,9 +12,6 @@
 //! with names and places), `ParsedBlock` (what callers see of a parsed block: such a tree with its text), `Names` (which words
 //! are names), `Limits` (how long, how deep and how many), `Texts` (what is printed of types, values and verdicts) and `UnlessNoMemory`
 //! (when a call, of any crate, answers as its definition does).
-//!
-//! The trees of the code are those of `action` and `expr`, and as parsed those of `raw`. `raw_block` has the parsed block, which
-//! the parser makes and the check takes.
 #![tactic(auto)]
 
 pub mod action;

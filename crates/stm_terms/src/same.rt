@@ -21,7 +21,7 @@ fn same_expr(a: &Expr, b: &Expr) -> bool
 }
 
 impl Action {
-    /// Whether the two actions are one tree.
+    /// Whether the two actions are the same tree.
     pub fn same(&self, other: &Action) -> bool
         ensures { IsTrue result ↔ (act_of self.now ≡ act_of other.now) }
     {

@@ -59,7 +59,7 @@ fn same_fault(one: Fault, other: Fault) -> bool
 }
 
 impl Verdict {
-    /// Whether two verdicts are one: in how they end, in their result or fault, and in each write and new variable.
+    /// Whether two verdicts are equal: in how they end, in their result or fault, and in each write and new variable.
     pub fn same(&self, other: &Verdict) -> bool
         ensures { IsTrue result ↔ (self.now ≡ other.now) }
     {

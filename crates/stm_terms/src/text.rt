@@ -85,7 +85,7 @@ fn write_refs(base: Base, refs: u8, out: &mut String) -> Result<(), NoMemory>
     }
 }
 
-/// Appends a type.
+/// Appends a type, as `TVar Int`.
 pub fn write_type(ty: Ty, out: &mut String) -> Result<(), NoMemory>
     ensures { AppendsText result (string_bytes out.old) (string_bytes out.new) (type_text ty) }
 {

@@ -20,7 +20,7 @@ pub enum Verdict {
 }
 
 impl Verdict {
-    /// A second verdict, equal to this one. `NoMemory` where its lists can't be copied.
+    /// A second verdict, equal to this one. `NoMemory` if its lists can't be copied.
     pub fn copy(&self, alloc: Global) -> Result<Verdict, NoMemory>
         ensures { IfOk result (λ v. v ≡ self.now) }
     {
