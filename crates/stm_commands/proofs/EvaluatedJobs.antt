@@ -1,5 +1,5 @@
 -- What delivering the answers of jobs does, one after another.
-use Rattle.std.proofs.Common.{◌≡◌, ℕ, suc, ◌+◌, ◌<◌, ◌≤◌, true, false, List, [], ◌∷◌, ◌++◌, Option, Some, None, Result, Ok, Err, IfOk, map, length, get_or, refl, sym, ap, ◌∙◌, append_assoc, append-nil, arith}
+use Rattle.std.proofs.Common.{◌≡◌, ℕ, ◌+◌, ◌≤◌, true, false, List, [], ◌∷◌, ◌++◌, Option, Some, None, Result, Ok, Err, IfOk, map, length, refl, sym, ap, ◌∙◌, append_assoc, append-nil, arith}
 use Rattle.std.proofs.lemmas.List.{map-append, length-append}
 use Rattle.std.specs.Option.{is_some}
 use Rattle.std.specs.declared.alloc.AllocError.{AllocError}
@@ -10,13 +10,14 @@ use Rattle.stm_eval.specs.declared.message.Evaluated.{Evaluated}
 use Rattle.stm_eval.specs.EvaluatedFields.{message_ticket}
 use Rattle.stm_events.specs.declared.errors.DeliverError.{DeliverError}
 use Rattle.stm_eval.specs.CoveredJobs.{AreJobsCovered}
-use Rattle.stm_jobs.specs.Answers.{IsMessageOf, AnswersJob}
+use Rattle.stm_eval.specs.JobAnswers.{IsMessageOf, AnswersJob}
+use Rattle.stm_jobs.specs.Answers.{AnswerJobs}
 use Rattle.stm_desk.specs.Refusals.{requeued_if_overtaken}
 use Rattle.stm_desk.specs.DeskView.{DeskView, state_of}
 use Rattle.stm_commands.specs.Evaluation.{DeliveredSoFar, delivered_by, delivered_next, delivered_all}
 use Rattle.stm_commands.specs.Jobs.{handed_back, delivery_refusal}
 use Rattle.stm_commands.specs.OpenDesk.{HandedOut}
-use Rattle.stm_commands.specs.OpenInvariant.{handed_out, JobStands, JobsStand, HasGrown, OwnsTicket, OwnTheirTickets, after_message, IsRefusedFor, AnswerJobs}
+use Rattle.stm_commands.specs.OpenInvariant.{handed_out, JobStands, JobsStand, HasGrown, OwnsTicket, OwnTheirTickets, after_message, IsRefusedFor}
 use Rattle.stm_commands.proofs.Deliveries.{reason_of_job, refused_of_job}
 use Rattle.stm_commands.proofs.Growing.{stand_grown, own_grown}
 
@@ -106,14 +107,6 @@ ended_of cells d whole (j ∷ js) h p = absurd h
 pub left_none : (cells : List (Ty × Value)) (d whole : DeliveredSoFar) (answers : List Answer) → length answers ≡ 0 → IsLeft cells d whole answers → d ≡ whole
 left_none cells d whole [] n l = ended_of cells d whole l.jobs l.answered l.done
 left_none cells d whole (a ∷ rest) n l = absurd (omega arith)
-
--- as many answers as jobs, each of the job at its place
-pub each_answers : (cells : List (Ty × Value)) (jobs : List Job) (answers : List Answer) → length answers ≡ length jobs
-    → ((k : ℕ) (d : Job) (e : Answer) → k < length jobs → AnswersJob (get_or jobs k d) cells (get_or answers k e)) → AnswerJobs jobs cells answers
-each_answers cells [] [] n f = tt
-each_answers cells [] (a ∷ rest) n f = absurd (omega arith)
-each_answers cells (j ∷ js) [] n f = absurd (omega arith)
-each_answers cells (j ∷ js) (a ∷ rest) n f = (f 0 j a (omega arith), each_answers cells js rest (omega arith) (λ k d e h. f (suc k) d e (omega arith)))
 
 -- ---- batches
 -- the jobs that are left, which are evaluated and delivered to a desk yet

@@ -15,7 +15,6 @@ use Rattle.stm_events.specs.SlowDesk.{Slow, Waiter, is_current, find_waiter}
 use Rattle.stm_events.specs.States.{IsTicketOf, IsLegalFrom}
 use Rattle.stm_machine.specs.Checkpoints.{MayStart}
 use Rattle.stm_machine.specs.Machine.{installation_of}
-use Rattle.stm_jobs.specs.Answers.{AnswersJob}
 use Rattle.stm_source.specs.LaterNames.{NamesFollow}
 use Rattle.stm_desk.specs.Refusals.{RefusesDelivery, requeued_if_overtaken}
 use Rattle.stm_desk.specs.DeskView.{DeskView, start_state, state_of, with_event}
@@ -116,13 +115,6 @@ delivery_result (Some e) = Err e
 -- the delivery of a message is refused for this reason, if there is one; lack of memory is none
 abbrev pub IsRefusedFor : DeskView → Evaluated → Option DeliverError → Type 0
 IsRefusedFor d m reason = RefusesDelivery (delivery_result reason) d m × (reason ≢ Some NoMemory)
-
--- each answers the job at its place, and there are as many
-abbrev pub AnswerJobs : List Job → List (Ty × Value) → List (Result Evaluated (Job × AllocError)) → Type 0
-AnswerJobs [] cells [] = Unit {0}
-AnswerJobs [] cells (a ∷ rest) = ⊥
-AnswerJobs (j ∷ js) cells [] = ⊥
-AnswerJobs (j ∷ js) cells (a ∷ rest) = AnswersJob j cells a × AnswerJobs js cells rest
 
 -- how far the delivery of jobs came, with the desk as it then is
 abbrev pub delivered_so_far : DeskView → Evaluation → DeliveredSoFar

@@ -4,7 +4,8 @@ ghost use Rattle.std.specs.Prelude.{◌≡◌, ◌≤◌, ◌<◌, ◌+◌, List
 ghost use Rattle.stm_terms.specs.declared.kinds.Ty.{Ty};
 ghost use Rattle.stm_terms.specs.declared.values.Value.{Value};
 ghost use Rattle.stm_eval.specs.declared.job.Job.{Job};
-ghost use Rattle.stm_jobs.specs.Answers.{IsMessageOf, AnswersJob};
+ghost use Rattle.stm_eval.specs.JobAnswers.{IsMessageOf, AnswersJob};
+ghost use Rattle.stm_jobs.specs.Answers.{AnswerJobs};
 ghost use Rattle.stm_eval.specs.CoveredJobs.{AreJobsCovered};
 ghost use Rattle.stm_terms.specs.Limits.{max_waiting};
 ghost use Rattle.stm_events.specs.States.{IsLegalFrom};
@@ -12,7 +13,7 @@ ghost use Rattle.stm_machine.specs.Checkpoints.{MayStart};
 ghost use Rattle.stm_desk.specs.DeskView.{start_state, state_of};
 ghost use Rattle.stm_options.specs.declared.options.TheConstants.Options.{MAX_WORKERS};
 ghost use Rattle.stm_commands.specs.Evaluation.{delivered_next, delivered_all, evaluated};
-ghost use Rattle.stm_commands.specs.OpenInvariant.{handed_out, JobStands, JobsStand, HasGrown, OwnsTicket, OwnTheirTickets, AnswerJobs, delivered_so_far, none_delivered};
+ghost use Rattle.stm_commands.specs.OpenInvariant.{handed_out, JobStands, JobsStand, HasGrown, OwnsTicket, OwnTheirTickets, delivered_so_far, none_delivered};
 
 use crate::delivery::deliver_message;
 use crate::threading::Threading;

@@ -62,7 +62,7 @@ AllBranchesDefined under (seq a b) locals h =
 AllBranchesDefined under (catch a b) locals h =
     AllBranchesDefined under a locals h × OnThrow (run under a locals h) (λ n. AllBranchesDefined under b (locals ++ n ∷ []) h)
 
--- the same of what a step leaves
+-- all branches of what a step leaves are defined
 abbrev pub DefinedLeft : Variables → Step → List Value → Changes → Type 0
 DefinedLeft under (On rest) locals h = AllBranchesDefined under (act_of rest.now) locals h
 DefinedLeft under (Ended e) locals h = ⊤

@@ -1,12 +1,10 @@
 //! Messages made and read.
 
-ghost use Rattle.std.specs.Prelude.{◌≡◌, Some, IfOk, IfErr};
-ghost use Rattle.stm_terms.specs.ReadSet.{reads_of};
-ghost use Rattle.stm_terms.specs.Verdict.{verdict};
-ghost use Rattle.stm_terms.specs.Changes.{Variables, cell_value};
+ghost use Rattle.std.specs.Prelude.{◌≡◌};
 ghost use Rattle.stm_store.specs.Cells.{Covers};
-ghost use Rattle.stm_eval.specs.Messages.{Agrees, Holds, MessageIsValid};
-ghost use Rattle.stm_eval.specs.EvaluatedFields.{message_ticket, message_block, message_reads, message_verdict};
+ghost use Rattle.stm_eval.specs.Messages.{MessageIsValid};
+ghost use Rattle.stm_eval.specs.EvaluatedFields.{message_ticket, message_block, message_reads, message_verdict, HoldsWhereRead};
+ghost use Rattle.stm_eval.specs.JobAnswers.{AnswersJob};
 
 use crate::block::try_block;
 use crate::job::Job;
@@ -21,13 +19,7 @@ use stm_terms::verdicts::Verdict;
 /// Evaluates a block on a store that has the variables which it names. After `NoMemory` the job is as it was.
 pub fn evaluate(alloc: Global, job: Job, frozen: &Frozen) -> Result<Evaluated, (Job, NoMemory)>
     requires { Covers frozen.now job.block.uses }
-    ensures job { IfOk result (λ m.
-        (message_ticket m ≡ job.ticket) × (message_block m ≡ job.block)) }
-    ensures verdict { IfOk result (λ m.
-        verdict (cell_value frozen.now) job.block.tree ≡ Some (message_verdict m)) }
-    ensures reads { IfOk result (λ m.
-        message_reads m ≡ reads_of (cell_value frozen.now) job.block.tree) }
-    ensures refused { IfErr result (λ e. e.0 ≡ job) }
+    ensures { AnswersJob job frozen.now result }
 {
     match try_block(alloc, frozen, job.block.block()) {
         Ok((verdict, reads)) => Ok(Evaluated::of(job, reads, verdict)),
@@ -40,7 +32,7 @@ impl Evaluated {
     pub(crate) fn of(job: Job, reads: Reads, found: Verdict) -> Evaluated
         requires { MessageIsValid job.block.tree reads found }
         ensures job { (message_ticket result ≡ job.ticket) × (message_block result ≡ job.block) }
-        ensures parts { (message_reads result ≡ reads) × (message_verdict result ≡ found) }
+        ensures held { (message_reads result ≡ reads) × (message_verdict result ≡ found) }
     {
         let Job { ticket, block } = job;
         Evaluated {
@@ -69,9 +61,7 @@ impl Evaluated {
     /// reads the same, and its verdict is the message's.
     pub fn reads(&self) -> &Reads
         ensures value { result.now ≡ message_reads self.now }
-        ensures holds { (S : Variables) → Agrees (message_reads self.now) S
-            → Holds (message_block self.now).tree S
-            (message_reads self.now) (message_verdict self.now) }
+        ensures holds { HoldsWhereRead self.now }
     {
         &self.reads
     }
@@ -79,9 +69,7 @@ impl Evaluated {
     /// The verdict, which is the block's on all variables that have the values which it read.
     pub fn verdict(&self) -> &Verdict
         ensures value { result.now ≡ message_verdict self.now }
-        ensures holds { (S : Variables) → Agrees (message_reads self.now) S
-            → Holds (message_block self.now).tree S
-            (message_reads self.now) (message_verdict self.now) }
+        ensures holds { HoldsWhereRead self.now }
     {
         &self.verdict
     }

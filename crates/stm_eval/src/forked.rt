@@ -4,7 +4,7 @@
 //! be started: the left one goes on with the log, in a frame, and the right one with a copy that was made before. Where
 //! the left one retried, what it read is joined to what the right one read. Else nothing of the right one counts.
 
-ghost use Rattle.std.specs.Prelude.{◌≡◌, ◌≢◌, ◌+◌, ◌<◌, ◌≤◌, [], List, Some, length, take, OnOk, OnErr, IfOk, IfErr};
+ghost use Rattle.std.specs.Prelude.{◌≡◌, ◌≢◌, ◌+◌, ◌<◌, ◌≤◌, [], List, Some, length, take, OnOk, OnErr, IfOk};
 ghost use denote.Param.Send.{IsSync};
 ghost use Rattle.stm_terms.specs.declared.values.Value.{Value as AnyValue};
 ghost use Rattle.stm_terms.specs.Ast.{Act, act_of, or_else, bind, seq, catch};
@@ -13,7 +13,7 @@ ghost use Rattle.stm_terms.specs.ReadSet.{reads_of};
 ghost use Rattle.stm_terms.specs.Verdict.{verdict};
 ghost use Rattle.stm_store.specs.Cells.{Covers};
 ghost use Rattle.stm_log.specs.LogModel.{Logged};
-ghost use Rattle.stm_eval.specs.EvaluatedFields.{message_ticket, message_block, message_reads, message_verdict};
+ghost use Rattle.stm_eval.specs.JobAnswers.{AnswersJob};
 ghost use Rattle.stm_terms.specs.Limits.{max_levels};
 ghost use Rattle.stm_eval.specs.InterpreterSteps.{size, size_left, StepsTo};
 ghost use Rattle.stm_eval.specs.BothBranches.{DefinedLeft, IsReadSetOf, CanRun, RunsTo, entered};
@@ -468,13 +468,7 @@ pub fn evaluate_forked<R: Threads + Sync>(
 ) -> Result<Evaluated, (Job, NoMemory)>
     requires levels { levels ≤ max_levels }
     requires covered { Covers frozen.now job.block.uses }
-    ensures job { IfOk result (λ m.
-        (message_ticket m ≡ job.ticket) × (message_block m ≡ job.block)) }
-    ensures verdict { IfOk result (λ m.
-        verdict (cell_value frozen.now) job.block.tree ≡ Some (message_verdict m)) }
-    ensures reads { IfOk result (λ m.
-        message_reads m ≡ reads_of (cell_value frozen.now) job.block.tree) }
-    ensures refused { IfErr result (λ e. e.0 ≡ job) }
+    ensures { AnswersJob job frozen.now result }
 {
     match try_forked(rt, alloc, frozen, job.block.block(), levels) {
         Ok((verdict, reads)) => Ok(Evaluated::of(job, reads, verdict)),

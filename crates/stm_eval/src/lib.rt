@@ -6,7 +6,8 @@
 //! a block does depends only on what it reads, also in left branches and in actions that were rolled back.
 //!
 //! What a reader has to believe is in `specs/`: `Messages` (when a message is true, and what holds of a block on a store),
-//! `EvaluatedFields` (the parts of a message), `CoveredJobs` (what a store must have for jobs) and `Laws`.
+//! `EvaluatedFields` (the parts of a message), `JobAnswers` (what is returned for a job), `CoveredJobs` (what a store must have for
+//! jobs) and `Laws`.
 #![tactic(auto)]
 
 pub mod block;

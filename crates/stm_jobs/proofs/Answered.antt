@@ -11,7 +11,8 @@ use Rattle.stm_eval.specs.declared.job.Job.{Job}
 use Rattle.stm_eval.specs.declared.message.Evaluated.{Evaluated}
 use Rattle.stm_eval.specs.CoveredJobs.{AreJobsCovered}
 use Rattle.stm_jobs.specs.declared.slot.Slot.{Slot}
-use Rattle.stm_jobs.specs.Answers.{AnswersJob}
+use Rattle.stm_eval.specs.JobAnswers.{AnswersJob}
+use Rattle.stm_jobs.specs.Answers.{AnswerJobs}
 use Rattle.stm_jobs.specs.Slots.{IsWorked, IsDone, IsReady, IsLeft, AreDone, todo, slot_of}
 
 abbrev pub Answer : Type 0
@@ -60,6 +61,20 @@ answered cells jobs before after answers n len is are same each k d e h =
     let y : get_or after k (slot_of e) ≡ slot_of (get_or answers k e) = ap (λ l. get_or l k (slot_of e)) are ∙ get_or-map slot_of answers k e (slot_of e) (omega arith) in
     let w = worked_at cells jobs before after is (λ i f l. each i f (omega arith)) k d (slot_of e) h in
     left_answer (get_or jobs k d) cells (get_or answers k e) (subst (λ (s : Slot). IsLeft (get_or jobs k d) cells s.job s.message) y w)
+
+pub as_many : (jobs : List Job) (before after : List Slot) (answers : List Answer) (n : ℕ) → length before ≡ n → before ≡ map todo jobs → after ≡ map slot_of answers → length after ≡ n → length answers ≡ length jobs
+as_many jobs before after answers n len is are same =
+    let o : length before ≡ length jobs = ap length is ∙ length-map jobs todo in
+    let m : length after ≡ length answers = ap length are ∙ length-map answers slot_of in
+    omega (arith, o, m, len, same)
+
+-- as many answers as jobs, each of the job at its place
+pub each_answers : (cells : List (Ty × Value)) (jobs : List Job) (answers : List Answer) → length answers ≡ length jobs
+    → ((k : ℕ) (d : Job) (e : Answer) → k < length jobs → AnswersJob (get_or jobs k d) cells (get_or answers k e)) → AnswerJobs jobs cells answers
+each_answers cells [] [] n f = tt
+each_answers cells [] (a ∷ rest) n f = absurd (omega arith)
+each_answers cells (j ∷ js) [] n f = absurd (omega arith)
+each_answers cells (j ∷ js) (a ∷ rest) n f = (f 0 j a (omega arith), each_answers cells js rest (omega arith) (λ k d e h. f (suc k) d e (omega arith)))
 
 all_covered : (cells : List (Ty × Value)) (jobs : List Job) → AreJobsCovered cells jobs → (k : ℕ) (d : Job) → k < length jobs → Covers cells (get_or jobs k d).block.uses
 all_covered cells [] h k d l = absurd (omega arith)

@@ -7,7 +7,7 @@ use Rattle.stm_store.specs.Cells.{Covers}
 use Rattle.stm_eval.specs.declared.job.Job.{Job}
 use Rattle.stm_eval.specs.declared.message.Evaluated.{Evaluated}
 use Rattle.stm_jobs.specs.declared.slot.Slot.{Slot}
-use Rattle.stm_jobs.specs.Answers.{IsMessageOf}
+use Rattle.stm_eval.specs.JobAnswers.{IsMessageOf}
 
 -- a slot with a job to do
 abbrev pub todo : Job → Slot

@@ -3,7 +3,7 @@
 ghost use Rattle.std.specs.Prelude.{◌≡◌, ℕ, ◌<◌, ◌≤◌, All, vec_len, slice_index_or, IfOk, IfErr};
 ghost use Rattle.stm_terms.specs.Limits.{max_levels, max_workers};
 ghost use Rattle.stm_eval.specs.CoveredJobs.{AreJobsCovered};
-ghost use Rattle.stm_jobs.specs.Answers.{AnswersJob};
+ghost use Rattle.stm_jobs.specs.Answers.{AnswerJobs};
 ghost use Rattle.stm_jobs.specs.Slots.{IsWorked, IsReady};
 
 use crate::slot::{Slot, answers_of, slots_of, work_on};
@@ -14,7 +14,7 @@ use stm_eval::{Evaluated, Job};
 use stm_store::Frozen;
 use stm_terms::NoMemory;
 
-/// A job's message, or the job back where memory ran out.
+/// A job's message, or the job back if memory ran out.
 pub type Answer = Result<Evaluated, (Job, NoMemory)>;
 
 fn work_all<R: Threads + Sync>(
@@ -43,11 +43,10 @@ fn work_all<R: Threads + Sync>(
     );
 }
 
-/// Evaluates the jobs by at most `workers` threads on a store that has the variables of their blocks,
-/// and answers in the order of the jobs. Where memory runs out for the list of the answers, the
-/// jobs are handed back before any of them is evaluated; where a thread can't be started, the
-/// caller's thread does its share. Both branches of an `orElse` run at once, in threads of their
-/// own, `levels` deep.
+/// Evaluates the jobs by at most `workers` threads on a store that has the variables of their blocks, and returns the answers
+/// in the order of the jobs. If memory runs out for the list of the answers, the jobs are handed back before any of them is
+/// evaluated. If a thread can't be started, the caller's thread does its share. Both branches of an `orElse` run at once, in
+/// threads of their own, `levels` deep.
 pub fn evaluate_all<R: Threads + Sync>(
     rt: &R,
     alloc: Global,
@@ -60,8 +59,7 @@ pub fn evaluate_all<R: Threads + Sync>(
     requires levels { levels ≤ max_levels }
     requires covered { AreJobsCovered frozen.now jobs.items }
     ensures len { IfOk result (λ v. vec_len v ≡ vec_len jobs) }
-    ensures each { IfOk result (λ v. (k : ℕ) (d : _) (e : _) → k < vec_len jobs → AnswersJob
-        (slice_index_or jobs.items k d) frozen.now (slice_index_or v.items k e)) }
+    ensures each { IfOk result (λ v. AnswerJobs jobs.items frozen.now v.items) }
     ensures back { IfErr result (λ e. e.0 ≡ jobs) }
 {
     let Ok(room) = Vec::with_capacity(alloc, jobs.len()) else {

@@ -11,7 +11,7 @@ use stm_eval::{Evaluated, Job, evaluate_forked};
 use stm_store::Frozen;
 use stm_terms::NoMemory;
 
-/// A job, and then its message. A job that is left was refused for want of memory.
+/// A job, and then its message. For a job that is left memory ran out.
 ///
 /// It is a struct of two options and no enum of jobs and answers: that a type may go to another
 /// thread is found by a search, which ends before it has gone through three blocks.
@@ -44,7 +44,7 @@ pub(crate) fn work_on<R: Threads + Sync>(
 
 /// A slot for each job.
 pub(crate) fn slots_of(alloc: Global, jobs: Vec<Job>) -> Result<Vec<Slot>, (Vec<Job>, NoMemory)>
-    ensures ok { IfOk result (λ v. v.items ≡ map todo jobs.items) }
+    ensures done { IfOk result (λ v. v.items ≡ map todo jobs.items) }
     ensures back { IfErr result (λ e. e.0 ≡ jobs) }
 {
     let Ok(mut slots) = Vec::with_capacity(alloc, jobs.len()) else {

@@ -2,9 +2,10 @@ use Rattle.std.proofs.Common.{◌≡◌, ◌≤◌, ◌+◌, List, map, length}
 use Rattle.stm_terms.specs.declared.kinds.Ty.{Ty}
 use Rattle.stm_terms.specs.declared.values.Value.{Value}
 use Rattle.stm_eval.specs.declared.job.Job.{Job}
+use Rattle.stm_jobs.specs.Answers.{AnswerJobs}
 use Rattle.stm_desk.specs.DeskView.{state_of}
 use Rattle.stm_commands.specs.Evaluation.{delivered_all}
-use Rattle.stm_commands.specs.OpenInvariant.{handed_out, JobsStand, HasGrown, OwnTheirTickets, AnswerJobs}
+use Rattle.stm_commands.specs.OpenInvariant.{handed_out, JobsStand, HasGrown, OwnTheirTickets}
 use Rattle.stm_commands.proofs.EvaluatedJobs.{IsLeft}
 use Rattle.stm_commands.proofs.evaluation.deliver_answers.Given as goal
 

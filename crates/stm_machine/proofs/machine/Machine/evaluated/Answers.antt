@@ -22,4 +22,4 @@ returns-in-Ok c = λ s h.
     let k = subst (λ (m : Parts). IsAt m s) (sym c.self.view_is) h in
     let same = subst (λ (m : Parts). c.args.frozen.now ≡ plains m.store) (sym c.self.view_is) c.requires.store in
     is_present _ s k c.args.ticket c.in_ok-job.job c.in-Ok.message c.args.frozen.now same c.in_ok-job.ensures.ticket c.in_ok-job.ensures.block
-    c.in-Ok.ensures.job.0 c.in-Ok.ensures.job.1 c.in-Ok.ensures.verdict c.in-Ok.ensures.reads
+    c.in-Ok.ensures.ticket c.in-Ok.ensures.block c.in-Ok.ensures.verdict_is c.in-Ok.ensures.reads_are
