@@ -3,7 +3,6 @@ use Rattle.std.proofs.Common.{◌≡◌, ℕ, ◌+◌, ◌<◌, ◌≤◌, true,
 use Rattle.std.specs.Prelude.{◌≢◌, Bool, None, nat_le, nat_lt, Result, Ok, Err, IfErr}
 use Rattle.std.proofs.lemmas.Bool.Decides.{nat_tests}
 use Rattle.stm_terms.specs.declared.verdicts.Verdict.{Verdict}
-use Rattle.stm_terms.specs.declared.verdicts.Verdict.TheVariants.{Commits, Throws, Blocks}
 use Rattle.stm_store.specs.Cells.{plains, Fits}
 use Rattle.stm_store.specs.Tables.{Declared}
 use Rattle.stm_check.specs.TypedBlock.{Block}
@@ -115,11 +114,6 @@ ended d m client block v n stale k same is p =
     let free = next_free m s d.pending k same in
     ap (λ (ps : List Entry). record d { history = ((d.history ++ event client (Submitted t block) ∷ []) ++ event client (Installed t v) ∷ []) ++ event client (Finished t v n stale) ∷ []; pending = with_tickets stale ps }) (sym (removed_with t false d.pending free))
     ∙ ap (with_whats d client) (sym (ended_whats m s block v n stale k is p))
-
-pub blocks_is : (v : Verdict) → is_blocks v ≡ true → v ≡ Blocks
-blocks_is (Commits writes news result) e = cc
-blocks_is (Throws f) e = cc
-blocks_is Blocks e = refl
 
 pub not_full : (limit n k : ℕ) → nat_lt limit (n + k) ≡ false → 0 < k → nat_le limit n ≡ false
 not_full limit n k e l = grind (arith, nat_tests)

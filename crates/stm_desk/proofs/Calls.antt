@@ -1,6 +1,6 @@
 -- Why a call is refused, and that a call keeps the desk what its history makes.
 use Rattle.std.proofs.Common.{◌≡◌, ℕ, ◌+◌, ◌<◌, ◌≤◌, Bool, false, List, [], ◌∷◌, ◌++◌, length, Option, Some, None, refl, sym, ap, subst, arith, length-append}
-use Rattle.std.specs.Prelude.{nat_le, Result, Ok, Err, IfOk, IfErr}
+use Rattle.std.specs.Prelude.{nat_le, Result, Ok, Err, IfErr}
 use Rattle.std.proofs.lemmas.Bool.{leb-false}
 use Rattle.stm_terms.specs.UnlessNoMemory.{RefusedAs}
 use Rattle.stm_store.specs.Tables.{Declared}
@@ -20,11 +20,6 @@ use Rattle.stm_machine.specs.Checkpoints.{CheckpointView, start_of, max_next}
 use Rattle.stm_machine.specs.Machine.{Parts, IsAt, HasTicketLeft, MovesBy, event}
 use Rattle.stm_desk.specs.Kept.{DeskInvariant}
 use Rattle.stm_desk.proofs.Starts.{start_next}
-
--- what the machine says of what a call returns, at the state that it is at
-pub at_state : {A E : Type 0} (m : Parts) (s : Slow) (r : Result A E) (P : Slow → A → Type 0) → IsAt m s → IfOk r (λ x. (s : Slow) → IsAt m s → P s x) → IfOk r (λ x. P s x)
-at_state m s (Ok x) P k h = h s k
-at_state m s (Err e) P k h = tt
 
 -- ---- refusals
 -- where nothing refuses a call, it succeeds or memory ran out

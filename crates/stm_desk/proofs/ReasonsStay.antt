@@ -57,10 +57,6 @@ cause_is reads c ascend a =
     ap (λ (cs : List Change). record { finish = c.finish; changes = changes_from reads (λ i. find i (lefts cs)) }) a.are
     ∙ ap (λ (cs : List Change). record { finish = c.finish; changes = cs }) (changes_again reads a.variables ascend ∙ sym a.are)
 
-some_unmapped : (o : Option Cause) → is_some (option_map IsStale o) ≡ true → is_some o ≡ true
-some_unmapped None e = e
-some_unmapped (Some c) e = refl
-
 told_again : (reads : List (ℕ × Value)) (o : Option Cause) → Rising reads → ((c : Cause) → o ≡ Some c → AreChanges reads c.changes) → is_some (option_map IsStale o) ≡ true
     → Some (reason_kept reads (cause_kept (option_map IsStale o))) ≡ option_map IsStale o
 told_again reads None ascend h e = cc

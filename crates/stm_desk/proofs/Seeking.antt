@@ -1,17 +1,14 @@
 -- The search for the causes of stale blocks, one step after another.
-use Rattle.std.proofs.Common.{◌≡◌, ℕ, ◌+◌, ◌<◌, ◌≤◌, zero, suc, Bool, true, false, not, ◌&&◌, ◌||◌, cond, List, [], ◌∷◌, length, get_or, drop, take, Option, Some, None, refl, sym, ap, subst, ◌∙◌, arith, eqb-true}
+use Rattle.std.proofs.Common.{◌≡◌, ℕ, ◌+◌, ◌<◌, ◌≤◌, zero, suc, Bool, true, false, not, ◌&&◌, ◌||◌, cond, List, [], ◌∷◌, length, get_or, drop, take, Option, Some, None, refl, sym, ap, subst, ◌∙◌, arith}
 use Rattle.std.specs.Prelude.{nat_eq, is_some}
 use Rattle.std.specs.List.{list_any}
 use Rattle.std.specs.Option.{option_or}
-use Rattle.std.proofs.lemmas.Bool.Decides.{nat_tests}
 use Rattle.std.proofs.lemmas.List.{drop_more, drop_all, take-append-drop}
 use Rattle.stm_terms.specs.declared.values.Value.{Value}
 use Rattle.stm_events.specs.declared.event.Event.{Event}
 use Rattle.stm_events.specs.declared.kept_cause.KeptCause.{KeptCause}
-use Rattle.stm_machine.specs.declared.checkpoint.CheckpointBlock.{CheckpointBlock}
-use Rattle.stm_desk.specs.Reasons.{kept_cause_in}
 use Rattle.stm_desk.specs.ReasonsByEvents.{IsWritable, EachIsWritable}
-use Rattle.stm_desk.specs.Causes.{cause_in_list, cause_listed, last_listed, has_stale, cause_sought, IsSought}
+use Rattle.stm_desk.specs.Causes.{cause_in_list, cause_listed, last_listed, cause_sought, IsSought}
 use Rattle.stm_desk.proofs.Listed.{last_listed-append}
 
 -- ---- one step and another
@@ -19,9 +16,6 @@ use Rattle.stm_desk.proofs.Listed.{last_listed-append}
 pub sought_none : (m : Bool) (c : Option KeptCause) → IsSought m c None m c
 sought_none true c = record { missing = refl; cause = refl }
 sought_none false c = record { missing = refl; cause = refl }
-
-sought_same : (m is : Bool) (c has : Option KeptCause) → is ≡ m → has ≡ c → IsSought m c None is has
-sought_same m is c has e h = subst (λ (b : Bool). IsSought m c None b has) (sym e) (subst (λ (o : Option KeptCause). IsSought m c None m o) (sym h) (sought_none m c))
 
 -- nothing was missing
 sought_absent : (m : Bool) (c f : Option KeptCause) → m ≡ false → IsSought m c f m c
@@ -36,45 +30,11 @@ then_by false c f g is has q = record { missing = q.missing; cause = q.cause }
 pub sought_then : (m : Bool) (c f : Option KeptCause) (m' : Bool) (c' g : Option KeptCause) (is : Bool) (has : Option KeptCause) → IsSought m c f m' c' → IsSought m' c' g is has → IsSought m c (option_or f g) is has
 sought_then m c f m' c' g is has p q = then_by m c f g is has (subst (λ (b : Bool). IsSought b (cause_sought m f c) g is has) p.missing (subst (λ (o : Option KeptCause). IsSought m' o g is has) p.cause q))
 
-last_by : (m : Bool) (c f g : Option KeptCause) → cause_sought (m && not (is_some f)) g (cause_sought m f c) ≡ cause_sought m (option_or f g) c
-last_by true c None g = refl
-last_by true c (Some k) g = refl
-last_by false c f g = refl
-
-pub sought_last : (m : Bool) (c f : Option KeptCause) (m' : Bool) (c' g has : Option KeptCause) → IsSought m c f m' c' → has ≡ cause_sought m' g c' → has ≡ cause_sought m (option_or f g) c
-sought_last m c f m' c' g has p e = e ∙ ap (λ (b : Bool). cause_sought b g c') p.missing ∙ ap (cause_sought (m && not (is_some f)) g) p.cause ∙ last_by m c f g
-
 -- what is found from here on makes it what was found of all
 abbrev pub GoesOn : Bool → Option KeptCause → Option KeptCause → Bool → Option KeptCause → Option KeptCause → Type 0
 GoesOn was had all m c rest = (is : Bool) (has : Option KeptCause) → IsSought m c rest is has → IsSought was had all is has
 
 -- ---- the list of a finish
-turned : (t u : ℕ) → nat_eq u t ≡ nat_eq t u
-turned t u = grind (arith, nat_tests)
-
-for_by : (b r : Bool) (t u : ℕ) (missing : ℕ → Bool) (m' : Bool) (had has : Option KeptCause) (k : ℕ → KeptCause) → nat_eq t u ≡ b → missing u ≡ r → m' ≡ cond b false (missing t) → has ≡ cond (r && b) (Some (k u)) had → IsSought (missing t) had (cond b (Some (k t)) None) m' has
-for_by true true t u missing m' had has k e r m h =
-    let same : t ≡ u = eqb-true t u e in
-    record {
-      missing = m ∙ sym (ap (λ (x : ℕ). missing x && false) same ∙ ap (λ (b : Bool). b && false) r);
-      cause = h ∙ ap (λ (x : ℕ). Some (k x)) (sym same) ∙ sym (ap (λ (b : Bool). cause_sought b (Some (k t)) had) (ap missing same ∙ r));
-    }
-for_by true false t u missing m' had has k e r m h =
-    let same : missing t ≡ false = ap missing (eqb-true t u e) ∙ r in
-    record { missing = m ∙ sym (ap (λ (b : Bool). b && false) same); cause = h ∙ sym (ap (λ (b : Bool). cause_sought b (Some (k t)) had) same) }
-for_by false true t u missing m' had has k e r m h = sought_same (missing t) m' had has m h
-for_by false false t u missing m' had has k e r m h = sought_same (missing t) m' had has m h
-
--- a ticket that was missing has this cause
-pub sought_here : (t u : ℕ) (missing : ℕ → Bool) (m' : Bool) (had has : Option KeptCause) (k : ℕ → KeptCause) → missing u ≡ true → m' ≡ cond (nat_eq u t) false (missing t) → has ≡ cond (nat_eq u t) (Some (k u)) had
-    → IsSought (missing t) had (cond (nat_eq t u) (Some (k t)) None) m' has
-sought_here t u missing m' had has k r m h =
-    for_by (nat_eq t u) true t u missing m' had has k refl r (m ∙ ap (λ (b : Bool). cond b false (missing t)) (turned t u)) (h ∙ ap (λ (b : Bool). cond b (Some (k u)) had) (turned t u))
-
--- one that wasn't has what it had
-pub sought_not : (t u : ℕ) (missing : ℕ → Bool) (m' : Bool) (had : Option KeptCause) (k : ℕ → KeptCause) → missing u ≡ false → m' ≡ cond (nat_eq u t) false (missing t) → IsSought (missing t) had (cond (nat_eq t u) (Some (k t)) None) m' had
-sought_not t u missing m' had k r m = for_by (nat_eq t u) false t u missing m' had had k refl r (m ∙ ap (λ (b : Bool). cond b false (missing t)) (turned t u)) refl
-
 in_list_more : (t : ℕ) (k : KeptCause) (x : ℕ) (xs : List ℕ) → cause_in_list t k (x ∷ xs) ≡ option_or (cond (nat_eq t x) (Some k) None) (cause_in_list t k xs)
 in_list_more t k x xs = by (nat_eq t x) where
   by : (b : Bool) → cond (b || list_any (nat_eq t) xs) (Some k) None ≡ option_or (cond b (Some k) None) (cause_in_list t k xs)
@@ -119,32 +79,4 @@ sought_all t reads es i was had m c none before =
     (sought_then was had (last_listed t reads (drop i es)) m c (last_listed t reads (take i es)) m c before (sought_absent m c (last_listed t reads (take i es)) none))
 
 -- ---- the blocks of a checkpoint
-dropped : (bs : List CheckpointBlock) (i : ℕ) (b : CheckpointBlock) → i < length bs → b ≡ get_or bs i b → drop i bs ≡ b ∷ drop (i + 1) bs
-dropped bs i b within item = drop_more bs i b within ∙ ap (λ (y : CheckpointBlock). y ∷ drop (i + 1) bs) (sym item)
-
-kept_by : (b m m' : Bool) (cause c c' rest : Option KeptCause) → m' ≡ cond b false m → c' ≡ cause_sought m (cond b cause None) c → cause_sought m' rest c' ≡ cause_sought m (cond b cause rest) c
-kept_by true m m' cause c c' rest e h = ap (λ (x : Bool). cause_sought x rest c') e ∙ h
-kept_by false true m' cause c c' rest e h = ap (λ (x : Bool). cause_sought x rest c') e ∙ ap (option_or rest) h
-kept_by false false m' cause c c' rest e h = ap (λ (x : Bool). cause_sought x rest c') e ∙ h
-
-pub kept_goes_on : (t : ℕ) (bs : List CheckpointBlock) (i : ℕ) (b : CheckpointBlock) (m m' : Bool) (c c' all : Option KeptCause) → i < length bs → b ≡ get_or bs i b → m' ≡ cond (nat_eq b.ticket t) false m → c' ≡ cause_sought m (cond (nat_eq b.ticket t) b.cause None) c
-    → cause_sought m (kept_cause_in t (drop i bs)) c ≡ all → cause_sought m' (kept_cause_in t (drop (i + 1) bs)) c' ≡ all
-kept_goes_on t bs i b m m' c c' all within item e h on =
-    let split = dropped bs i b within item in
-    kept_by (nat_eq b.ticket t) m m' b.cause c c' (kept_cause_in t (drop (i + 1) bs)) e h
-    ∙ ap (λ (x : Bool). cause_sought m (cond x b.cause (kept_cause_in t (drop (i + 1) bs))) c) (turned t b.ticket)
-    ∙ ap (λ (xs : List CheckpointBlock). cause_sought m (kept_cause_in t xs) c) (sym split) ∙ on
-
 -- ---- the stale blocks
-joined : (x old rest : Bool) → ((x || old) || rest) ≡ (old || (x || rest))
-joined true true rest = refl
-joined true false rest = refl
-joined false true rest = refl
-joined false false rest = refl
-
-pub stale_goes_on : (t : ℕ) (bs : List CheckpointBlock) (i : ℕ) (b : CheckpointBlock) (old new all : Bool) → i < length bs → b ≡ get_or bs i b → new ≡ ((nat_eq b.ticket t && b.stale) || old) → (old || has_stale t (drop i bs)) ≡ all
-    → (new || has_stale t (drop (i + 1) bs)) ≡ all
-stale_goes_on t bs i b old new all within item e on =
-    let split = dropped bs i b within item in
-    ap (λ (x : Bool). x || has_stale t (drop (i + 1) bs)) e ∙ joined (nat_eq b.ticket t && b.stale) old (has_stale t (drop (i + 1) bs))
-    ∙ ap (λ (xs : List CheckpointBlock). old || has_stale t xs) (sym split) ∙ on

@@ -15,7 +15,6 @@ use Rattle.stm_events.proofs.TypedStores.{typed_initial, typed_from}
 use Rattle.stm_machine.specs.Checkpoints.{CheckpointView, start_of, MayStart, max_next}
 use Rattle.stm_machine.specs.Machine.{Parts}
 use Rattle.stm_machine.proofs.CheckpointStates.{is_possible, checkpoints_are_possible}
-use Rattle.stm_desk.specs.DeskView.{DeskView, state_of}
 use Rattle.stm_desk.specs.Kept.{DeskInvariant}
 
 pub start_possible : (table : List Declared) (o : Option CheckpointView) → MayStart table o → IsPossible (start_of table o)
@@ -64,7 +63,3 @@ legal_of_variables table (Some c) history e l = absurd (cc)
 -- the promise of the scheduler holds of it
 pub headline_of_variables : (table : List Declared) (o : Option CheckpointView) (history : List Event) → IsLegalFrom (start_of table o) history → o ≡ None → HeadlineHoldsBy Changed table history
 headline_of_variables table o history l e = headline Changed table history (legal_of_variables table o history e l)
-
--- and its state is that of the table
-pub state_of_variables : (d : DeskView) → d.checkpoint ≡ None → state_of d ≡ state d.table d.history
-state_of_variables d e = rw e refl
