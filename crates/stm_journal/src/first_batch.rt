@@ -16,7 +16,7 @@ use crate::journal::{Journal, put};
 use crate::sync_mode::SyncMode;
 
 impl<D: Device> Journal<D> {
-    /// Adds the first batch to an empty file, so that a crash leaves all of it or nothing, and a file that can be told from others by the
+    /// Adds the first batch to an empty file, so that a crash leaves all of it or nothing, and a file that is known from others by the
     /// first `front` bytes of the batch. At `Ok` it is acknowledged.
     ///
     /// After an error nothing more can be added: open the file again.
