@@ -25,7 +25,7 @@ pub fits_by : (o : Option Event) (known : List Named) (what : What) → IfSome o
 fits_by None known what h f = tt
 fits_by (Some e) known what h f = (h.0, subst (λ (w : What). WhatFitsNames known w) (sym h.1) f)
 
--- so of some of the names
+-- what fits all names fits these
 pub fits_at : {E : Type 0} (r : Result (Option Event) E) (known : List Named) → IfOk r (λ o. IfSome o (λ e. (t : List Named) → FitsNames t e)) → IfOk r (λ o. IfSome o (λ e. FitsNames known e))
 fits_at (Ok None) known h = tt
 fits_at (Ok (Some e)) known h = h known

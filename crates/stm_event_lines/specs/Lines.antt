@@ -103,7 +103,7 @@ what_data client (Labelled ticket label) =
     (member (codes "label") (string label)
     (member (codes "ticket") (number_data ticket) no_members))))
 
--- the same of a whole event
+-- the JSON value of a whole event
 abbrev pub event_data : Event → Data
 event_data e = what_data e.client e.what
 

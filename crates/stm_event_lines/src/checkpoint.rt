@@ -356,7 +356,7 @@ fn header_in(alloc: Global, json: &Json, line: &[u8]) -> Result<CheckpointHeader
     }
 }
 
-/// Reads the first line, exactly where it is one of a format of checkpoints.
+/// Reads the first line, exactly if it is one of a format of checkpoints.
 pub fn read_checkpoint_header(alloc: Global, line: &[u8]) -> Result<CheckpointHeader, LineError>
     ensures ok { IfOk result (λ h. checkpoint_header_line h.format h.next h.vars h.waiting ≡ line.now) }
     ensures format { IfOk result (λ h. IsCheckpointFormat h.format) }
@@ -484,7 +484,7 @@ fn cell_in(alloc: Global, json: &Json, line: &[u8]) -> Result<NamedCell, LineErr
     }
 }
 
-/// Reads a variable's line, exactly where it is one.
+/// Reads a variable's line, exactly if it is one.
 pub fn read_cell(alloc: Global, line: &[u8]) -> Result<NamedCell, LineError>
     ensures ok { IfOk result (λ c. cell_line (option_map string_bytes c.name) c.cell ≡ line.now) }
     ensures fits { IfOk result (λ c. FitsCell (option_map string_bytes c.name) c.cell) }
@@ -734,7 +734,7 @@ fn waiting_in(
     if_line(alloc, waiting, line)
 }
 
-/// Reads the line of a waiting block, exactly where it is one whose text is a block over the names.
+/// Reads the line of a waiting block, exactly if it is one whose text is a block over the names.
 pub fn read_waiting(alloc: Global, known: &Names, line: &[u8]) -> Result<WaitingBlock, LineError>
     ensures ok { IfOk result (λ w. waiting_line w.ticket w.block.text w.cause w.label w.delivery ≡ line.now) }
     ensures fits { IfOk result (λ w. FitsWaiting known.now w.ticket w.block w.cause w.label w.delivery) }

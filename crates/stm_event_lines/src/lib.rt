@@ -1,8 +1,13 @@
 //! The lines of a history: its header, its declared variables and its events as JSON, written exactly and read back exactly.
 //!
-//! A line of an event is read in one pass as a draft, which is then compared with the text that would be written. What a reader has to
-//! believe: `specs/Lines` has the line of each event, `specs/CheckpointLines` those of a checkpoint, and `specs/Fits` what can stand in a
-//! line. The block of a text is that of `stm_source`, which keeps those whose texts come again.
+//! `formats` says which formats are read and what may be in each. `write` writes the lines of a header, of a `variable` and of an event,
+//! and `checkpoint` those of a checkpoint, which it also reads; `build` and `send` write their parts. `read` reads lines back, by the
+//! parts of a JSON value (`fields`, `parts`, `verdicts`). A line of an event is first read in one pass as a `draft`, which is then compared
+//! with the text that would be written (`drafted`). `loose` reads lines that aren't written as they have to be.
+//!
+//! What a reader has to believe: `specs/Lines` has the line of each event, `specs/CheckpointLines` those of a checkpoint, `specs/Fits` what
+//! can stand in a line, and `specs/CheckedBlocks` what holds of the blocks in them. The block of a text is that of `stm_source`, which
+//! keeps those whose texts come again.
 #![tactic(auto)]
 
 mod build;

@@ -327,7 +327,7 @@ fn read_by_value(
     }
 }
 
-/// Reads a line, exactly where it is the text of an event that fits the names. A block whose text comes again is shared. The names come
+/// Reads a line, exactly if it is the text of an event that fits the names. A block whose text comes again is shared. The names come
 /// after those that were known before.
 pub fn read_event(
     alloc: Global,
@@ -366,7 +366,7 @@ pub(crate) fn header_of(json: &Json) -> Option<Header>
     Some(Header { format, vars })
 }
 
-/// Reads the first line, exactly where it is one of a format that is read.
+/// Reads the first line, exactly if it is one of a format that is read.
 pub fn read_header(alloc: Global, line: &[u8]) -> Result<Header, LineError>
     ensures ok { IfOk result (λ h. IsFormat h.format × (header_line h.format h.vars ≡ line.now)) }
     ensures small { IfOk result (λ h. Is32Bit h.vars) }
@@ -443,7 +443,7 @@ fn variable_in(alloc: Global, json: &Json, line: &[u8]) -> Result<Variable, Line
     }
 }
 
-/// Reads a variable's line, exactly where it is one.
+/// Reads a variable's line, exactly if it is one.
 pub fn read_variable(alloc: Global, line: &[u8]) -> Result<Variable, LineError>
     ensures ok { IfOk result (λ v. variable_line (declared v) ≡ line.now) }
     ensures fits { IfOk result (λ v. FitsVariable (declared v)) }
