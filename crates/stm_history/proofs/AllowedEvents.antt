@@ -79,7 +79,7 @@ follows_next start history e old new f room low a at counted copied kept blocks 
   blocks = blocks_next start history e old.blocks new.blocks f.blocks blocks;
 }
 
--- the same if a line was read over the names after the history
+-- a replayer follows the history also after a line was read over the names after it
 pub follows_read : (start : Start) (history : List Event) (r : Replayer) (blocks : List Named) → Follows start history r → blocks ≡ names_after start history → Follows start history (record r { blocks = blocks })
 follows_read start history r blocks f same = record {
   legal = f.legal;

@@ -37,7 +37,7 @@ allowed_expected s (Cancelled t) a = refl
 allowed_expected s (DeclaredLate name kind value) a = refl
 allowed_expected s (Labelled t label) a = refl
 
--- ---- the same of each event of a call
+-- ---- what is expected is one thing for all events of a call
 pub same_expected : (s : Slow) (a b : What) → IsSameCall a b → expected_what s a ≡ expected_what s b
 same_expected s (Submitted t b) (Submitted u c) e = ap (λ (x : Block). Some (Submitted s.next x)) e
 same_expected s (Submitted t b) (Installed u w) e = absurd e

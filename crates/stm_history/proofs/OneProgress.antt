@@ -93,7 +93,7 @@ no_fewer_cells p q T U cs ds s r l e =
     some_lines i names [] l e = omega (arith, l)
     some_lines i names (c ∷ cells) l e = line_there (cell_line (name_numbered i names) c) (cell_lines_from (i + 1) names cells) e
 
--- the same variables of a checkpoint
+-- two checkpoints have the same variables
 record AreSameCells (T U : List Named) (cs ds : List Cell) : Type 0 where
   pub names : T ≡ U
   pub cells : cs ≡ ds
@@ -128,7 +128,7 @@ cells_or_blocks p q next vars waiting waiting' T cs c text h k =
     let g = next_cell p T cs c [] (block_lines c.blocks) h.2 (subst (λ (f : ℕ). IsReadable f c) (sym s.formats) k.1) (omega (arith, same, h.3)) (append-nil (cell_lines T cs) ∙ s.rest) in
     line_there (cell_line g.name g.cell) g.more (sym g.rest)
 
--- the same waiting blocks
+-- two checkpoints have the same waiting blocks
 even_blocks : (format : ℕ) (c d : CheckpointView) → IsReadable format c → IsReadable format d → c.names ≡ d.names → length c.blocks ≡ length d.blocks → block_lines c.blocks ≡ block_lines d.blocks → c.blocks ≡ d.blocks
 even_blocks format c d r s names l e =
     let h = (r.fits).checkpoint in

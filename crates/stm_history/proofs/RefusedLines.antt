@@ -407,7 +407,7 @@ too_many format m line read e small many = λ q k. header_strange format m line 
 pub unfit : (start : Start) (history : List Event) (e : Event) → FitsNames (names_after start history) e → (FitsFormat start.format e → ⊥) → IsStrange (at_events start history) (event_line e)
 unfit start history e f none = λ d fits may k. none (subst (FitsFormat start.format) (event_same (names_after start history) d e fits f k) may)
 
--- ---- the same, as the code has it
+-- ---- refused lines, as the code has them
 
 pub refused_byte : (s s' : Stage) (whole : ℕ) (line line' taken more : List ℕ) (b : ℕ) (e : HistoryFault) → b ≡ 10 → s' ≡ s → line' ≡ line
     → ((p : CheckerState) → IsStage s' p → MayRefuse p line' e) → Reached s whole line taken → ReportsFault e (taken ++ b ∷ more)

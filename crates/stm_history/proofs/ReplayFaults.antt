@@ -1,4 +1,4 @@
--- What a replay tells at the event where it ends.
+-- What a replay reports at the event at which it ends.
 use Rattle.std.proofs.Common.{◌≡◌, ℕ, ◌+◌, ◌<◌, List, [], ◌∷◌, ◌++◌, length, take, drop, get_or}
 use Rattle.stm_store.specs.Tables.{Declared}
 use Rattle.stm_events.specs.declared.event.Event.{Event}

@@ -75,7 +75,7 @@ present_verdict s o = option_and_then (λ w. verdict_on s.store w.block) o
 abbrev pub finish_with : Slow → ℕ → Verdict → What
 finish_with s t v = Finished t v (length s.store) (stale_after (waking s.rule s.store v) (without_waiter t s.waiters))
 
--- the same call as it has to be on this state, if there is a verdict for it
+-- what the call of an event has to be on this state, if there is a verdict for it
 abbrev pub expected_what : Slow → What → Option What
 expected_what s (Submitted t b) = Some (Submitted s.next b)
 expected_what s (Installed t v) = option_map (Installed t) (present_verdict s (find_waiter t s.waiters))

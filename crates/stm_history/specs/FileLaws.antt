@@ -31,7 +31,7 @@ EachLineIsOneEvent =
 abbrev pub EventsAreLines : Type 0
 EventsAreLines = (names : List Named) (e : Event) → FitsNames names e → IsOneLine (event_line e)
 
--- the same of the lines of a checkpoint
+-- the lines of a checkpoint are ASCII, without a line feed and without a 0
 pub record CheckpointsAreLines : Type 0 where
   pub headers : (format next vars waiting : ℕ) → IsCheckpointFormat format → Is32Bit next → Is32Bit vars → Is32Bit waiting
       → IsOneLine (checkpoint_header_line format next vars waiting)

@@ -132,11 +132,11 @@ next_line start history = lines_before start.table start.checkpoint + length his
 abbrev pub numbers_at : Slow → List Event → Legal
 numbers_at s history = record { events = length history; waiting = length s.waiters; cells = length s.store }
 
--- the same of a history from this start
+-- the numbers of a history from this start
 abbrev pub numbers_from : Start → List Event → Legal
 numbers_from start history = numbers_at (state_after_start start history) history
 
--- the same of a history over a table, by the present rule
+-- the numbers of a history over a table, by the present rule
 abbrev pub numbers : List Declared → List Event → Legal
 numbers table history = numbers_at (state table history) history
 
@@ -155,7 +155,7 @@ NoEventNext format names rest =
 abbrev pub IsIllegalFrom : Start → List Event → Event → Type 0
 IsIllegalFrom start history e = IsLegalFrom (first_state start) (history ++ e ∷ []) → ⊥
 
--- the same over a table, by the present rule
+-- the event can't follow in a history over a table, by the present rule
 abbrev pub IsIllegal : List Declared → List Event → Event → Type 0
 IsIllegal table history e = IsLegal table (history ++ e ∷ []) → ⊥
 

@@ -16,7 +16,7 @@ IsReadingFault fault.BadHeader = ⊥
 IsReadingFault (fault.BadLine n) = ⊥
 IsReadingFault (fault.NotLegal n) = ⊥
 
--- a line was taken, which leads from one stage to the other; at most so many bytes were to come before, and so many are after
+-- a line was taken, which leads from one stage to the other; at most `before` bytes were to come before it, and at most `after` are still
 pub record TakesLine (s t : Stage) (m n : ℕ) (line : List ℕ) (old new : Option (List ℕ)) (before after : ℕ) : Type 0 where
   pub bytes : List ℕ
   pub consumed : Consumes old new bytes

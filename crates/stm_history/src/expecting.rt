@@ -40,7 +40,7 @@ use stm_terms::values::Value;
 /// What is due in place of an event.
 #[derive(Drop)]
 pub(crate) enum Expectation {
-    /// The same call as it has to be.
+    /// The call of the event, as it has to be.
     Due(What),
     /// None: a desk refuses the call.
     Refuses(CallRefusal),

@@ -416,7 +416,7 @@ impl Replayer {
         }
     }
 
-    /// One event more, exactly where it may follow. After an error nothing is promised.
+    /// Takes one event more, exactly if it may follow. After an error nothing is promised.
     pub(crate) fn step(&mut self, event: &Event) -> Result<(), StepError>
         requires { (S : Start) × (H : List AnyEvent) × Follows S H self.old }
         ensures done { OnOk result ((S : Start) (H : List AnyEvent)
