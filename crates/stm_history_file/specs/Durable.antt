@@ -68,11 +68,11 @@ pub record HistoryKept {D : Type 0} (disk : Disk D) (f : HistoryFile D) (start :
 abbrev pub KeepsHistory : {D : Type 0} → Disk D → HistoryFile D → Start → List Event → Type 0
 KeepsHistory disk f start history = IsTrue disk.is_honest → HistoryKept disk f start history
 
--- some history that begins there
+-- the file has some history that begins there
 abbrev pub KeepsSome : {D : Type 0} → Disk D → HistoryFile D → Start → Type 0
 KeepsSome disk f start = IsTrue disk.is_honest → (history : List Event) × HistoryKept disk f start history
 
--- some history, wherever it begins
+-- the file has some history, whatever its start is
 abbrev pub KeepsAny : {D : Type 0} → Disk D → HistoryFile D → Type 0
 KeepsAny disk f = IsTrue disk.is_honest → (start : Start) × (history : List Event) × HistoryKept disk f start history
 
@@ -200,7 +200,7 @@ RecordsUnless disk old new start events result =
       torn_too_long = ⊥;
     }) result
 
--- ---- beginning anew
+-- ---- beginning again, in a new file
 
 -- A crash at any moment leaves what it might have left before, or a file of just this text.
 abbrev pub LeavesOldOrAll : {D : Type 0} → Disk D → HistoryFile D → HistoryFile D → List ℕ → Type 0

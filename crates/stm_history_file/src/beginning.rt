@@ -120,7 +120,7 @@ impl<D: Replace + Drop> HistoryFile<D> {
     }
 
     /// Lets a history begin in a file that has none: records the lines before the events as a batch or, if they are too long for one, in a
-    /// new file, which takes the place of the old one. After an error other than `NoMemory` and `TooLong` nothing more can be recorded.
+    /// new file, which takes the place of the old one. After an error open the file again.
     #[tactic(auto, using(stm_journal::proofs::Faults::may_fail))]
     pub fn begin(
         &mut self,

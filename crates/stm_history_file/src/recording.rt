@@ -93,8 +93,8 @@ impl<D: Device> HistoryFile<D> {
     /// Records events after those that the file has, as one batch. The first batch also has the lines before the events, even if
     /// there is no event, in the format of the file.
     ///
-    /// A batch of more than 1 MiB is refused as `TooLong`, before anything is written; the caller records fewer events at a
-    /// time. After any other error than `TooLong`, `NoMemory` and `Full` nothing more can be recorded: open the file again.
+    /// A batch of more than 1 MiB is refused before anything is written, as `TooLong` unless memory runs out; the caller records
+    /// fewer events at a time. After `TooLong` more can be recorded. After any other error open the file again.
     pub fn record(
         &mut self,
         alloc: Global,
