@@ -1,5 +1,5 @@
 -- A file that takes the place of another: what a call that puts it there leaves, by its result.
-use Rattle.std.specs.Prelude.{◌≡◌, ◌⊎◌, List, [], ℕ, IsTrue, Some, None, Result, Ok, Err}
+use Rattle.std.specs.Prelude.{◌≡◌, ◌⊎◌, ⊤, List, [], ℕ, IsTrue, Some, None, Result, Ok, Err}
 use Rattle.stm_journal.specs.Device.{Elapses}
 use Rattle.stm_journal.specs.Disk.{Disk, OnDisk, Shows, IsOneOf, CrashLeaves}
 use Rattle.stm_journal.specs.Journal.{IsAtRest}
@@ -99,3 +99,9 @@ error_within (Unfinished e) = e
 abbrev pub journal_result : {T : Type 0} → Result T ReplaceError → Result T JournalError
 journal_result (Ok x) = Ok x
 journal_result (Err e) = Err (error_within e)
+
+-- after a refusal
+abbrev pub OnRefused : {T : Type 0} → Result T ReplaceError → Type 0 → Type 0
+OnRefused (Ok x) P = ⊤
+OnRefused (Err (Refused e)) P = P
+OnRefused (Err (Unfinished e)) P = ⊤
