@@ -15,7 +15,7 @@ returns-in-Ok g c =
       record {
         resumable = record {
           start = may_start s is.start;
-          legal = subst (λ (from : Slow). IsLegalFrom from h.events.items) (first_is h.format h.table h.checkpoint c.into_loaded.ensures.latest) is.legal;
+          legal = subst (λ (z : Slow). IsLegalFrom z h.events.items) (first_is h.format h.table h.checkpoint c.into_loaded.ensures.latest) is.legal;
           machine = c.into_loaded.ensures.at;
           text = (done.0, is);
           typed = events_typed s.format (first_state s) h.events.items is.events;
