@@ -7,6 +7,7 @@ use Rattle.stm_script.specs.declared.script_fault.ScriptFault.{ScriptFault}
 use Rattle.stm_script.specs.StormScript.{StormScript, storm_script}
 use Rattle.stm_storm.specs.declared.storming.StormFault.{StormFault}
 use Rattle.stm_storm.specs.declared.storming.StormFault.TheVariants as storm_fault
+use Rattle.stm_storm.specs.StormEnd.{ReadsStorm}
 use Rattle.stm_storm.specs.StormText.{IsFailedStormText, IsStormText, KeepsOfInvalidStorm, WritesStorm}
 
 -- a script that was read isn't invalid
@@ -32,9 +33,7 @@ writes_storm input old new s (Err (storm_fault.Script f)) read right failed unre
 writes_storm input old new s (Err (storm_fault.Run f)) read right failed unread = right_kept input old new s read
 
 -- it wasn't, and nothing was written
-pub unread_storm : (input old new : Option (List ℕ)) (e : StormFault) → Keeps old new
-    → ((f : ScriptFault) → e ≡ storm_fault.Script f → IfSome input (λ i. storm_script i ≡ Err f)) → (e ≡ storm_fault.Replay → ⊥)
-    → WritesStorm input old new (Err e)
-unread_storm input old new storm_fault.Replay keeps script ran = absurd (ran refl)
-unread_storm input old new (storm_fault.Script f) keeps script ran = (script f refl, keeps)
-unread_storm input old new (storm_fault.Run f) keeps script ran = all_kept input old new keeps
+pub unread_storm : (input old new : Option (List ℕ)) (e : StormFault) → Keeps old new → ReadsStorm input (Err e) → WritesStorm input old new (Err e)
+unread_storm input old new storm_fault.Replay keeps unread = absurd unread
+unread_storm input old new (storm_fault.Script f) keeps unread = (unread, keeps)
+unread_storm input old new (storm_fault.Run f) keeps unread = all_kept input old new keeps

@@ -1,14 +1,28 @@
 -- What the replay of a storm's history finds, and the text that the code writes of it.
-use Rattle.std.specs.Prelude.{◌≡◌, ℕ, List, [], ◌∷◌, ◌++◌, Option, Some, None, codes, length, ⊤}
+use Rattle.std.specs.Prelude.{◌≡◌, ◌≤◌, ℕ, List, [], ◌∷◌, ◌++◌, Option, Some, None, Result, Ok, Err, IfSome, codes, length, vec_len, ⊤}
 use Rattle.stm_store.specs.Tables.{Declared}
 use Rattle.stm_events.specs.declared.event.Event.{Event}
 use Rattle.stm_events.specs.SlowDesk.{IsLegal}
 use Rattle.stm_pool.specs.declared.close.Report.{Report}
 use Rattle.stm_pool.specs.declared.storm.Counts.{Counts}
+use Rattle.stm_script.specs.Limits.{max_sections}
+use Rattle.stm_script.specs.ScriptReading.{script_of}
+use Rattle.stm_script.specs.StormScript.{storm_script}
+use Rattle.stm_script.specs.declared.script_reader.Script.{Script}
+use Rattle.stm_storm.specs.declared.storming.StormFault.{StormFault}
+use Rattle.stm_storm.specs.declared.storming.StormFault.TheVariants as storm_fault
 use Rattle.stm_storm.specs.declared.replaying.Replay.{Replay}
 use Rattle.stm_storm.specs.declared.replaying.Replay.TheVariants.{NotClosed, NotLegal, Legal}
 use Rattle.stm_storm.specs.StormHistory.{IsIllegalStormHistory, IsStormHistory}
 use Rattle.stm_storm.specs.StormText.{client_lines, events_line, failed_lines}
+
+-- What reading a storm's script returns, of an input that may be known: the script that the input is; or the input's first faulty line and
+-- why it is faulty. Nothing was replayed yet.
+abbrev pub ReadsStorm : Option (List ℕ) → Result Script StormFault → Type 0
+ReadsStorm input (Ok script) = IfSome input (λ i. storm_script i ≡ Ok (script_of script)) × (vec_len script.sections ≤ max_sections)
+ReadsStorm input (Err (storm_fault.Script fault)) = IfSome input (λ i. storm_script i ≡ Err fault)
+ReadsStorm input (Err (storm_fault.Run fault)) = ⊤
+ReadsStorm input (Err storm_fault.Replay) = ⊥
 
 -- the lines after those of the clients
 abbrev pub replay_text : Replay → List ℕ
