@@ -1,6 +1,6 @@
 -- Types that a variable may be declared with, after some names.
-use Rattle.std.proofs.Common.{◌≡◌, ◌≢◌, ℕ, zero, suc, ◌+◌, ◌<◌, ◌≤◌, ◌-◌, Bool, true, false, ◌&&◌, List, [], ◌∷◌, ◌++◌, Option, Some, None, take, length, refl, sym, ap, subst, ◌∙◌, arith}
-use Rattle.std.specs.Prelude.{slice_get, option_map, is_some, not, nat_eq, nat_le, nat_lt, pos, if◌then◌else◌}
+use Rattle.std.proofs.Common.{◌≡◌, ◌≢◌, ℕ, zero, suc, ◌+◌, ◌<◌, ◌≤◌, Bool, true, false, ◌&&◌, List, [], ◌∷◌, Option, Some, None, length, refl, sym, ap, ◌∙◌, arith}
+use Rattle.std.specs.Prelude.{slice_get, option_map, is_some, nat_eq, nat_le, nat_lt, pos, if◌then◌else◌}
 use Rattle.std.proofs.lemmas.Bool.{false≢true}
 use Rattle.std.proofs.lemmas.Bool.Decides.{nat_tests}
 use Rattle.std.proofs.lemmas.Option.{slice_get_within}
@@ -11,10 +11,10 @@ use Rattle.stm_terms.specs.declared.values.Ref.TheVariants.{Old, New}
 use Rattle.stm_terms.specs.declared.values.Value.{Value}
 use Rattle.stm_terms.specs.declared.values.Value.TheVariants as value
 use Rattle.stm_terms.specs.Changes.{no_changes}
-use Rattle.stm_terms.specs.Typing.{TypeEnv, kind_of, type_of, kinds_in, same_base, same_ty, var_ty}
+use Rattle.stm_terms.specs.Typing.{type_of, same_ty, var_ty}
 use Rattle.stm_store.specs.Cells.{kinds_of}
-use Rattle.stm_store.specs.Naming.{Named, named_use, named_uses, known_kinds, named_from, named_in_table, may_hold_known, MayHaveType, AreKnown}
-use Rattle.stm_store.specs.Tables.{Declared, declared_cell, declared_cells, number_of, declare_refusal, is_type, may_hold, AreDeclared}
+use Rattle.stm_store.specs.Naming.{Named, known_kinds, named_from, named_in_table, MayHaveType, AreKnown}
+use Rattle.stm_store.specs.Tables.{Declared, declared_cells, number_of, declare_refusal, is_type, may_hold}
 use Rattle.stm_store.proofs.TypeTestsDecide.{and_left, and_right, both, kind_from, kind_to, le_true, true_le}
 
 pub low_of_held : (known : List Named) (kind : Ty) → MayHaveType known kind → kind.refs ≤ 8
@@ -73,9 +73,6 @@ plain_held known kind z =
 -- a reference to a variable that has a name
 pub reference_held : (known : List Named) (number : ℕ) (inner kind : Ty) → known_kinds known number ≡ Some inner → same_ty (var_ty inner) kind ≡ true → kind.refs ≤ 8 → MayHaveType known kind
 reference_held known number inner kind k s l = (value.Var (Old number), both _ _ (true_le _ _ l) (ap (λ (o : Option Ty). is_type (option_map var_ty o) kind) k ∙ s))
-
-pub too_deep : (known : List Named) (kind : Ty) → 8 < kind.refs → MayHaveType known kind → ⊥
-too_deep known kind l h = let low = low_of_held known kind h in absurd (omega (arith, low, l))
 
 -- each variable of a number that is known is at some place
 pub record IsPlacedKind (known : List Named) (kind : Ty) : Type 0 where

@@ -1,5 +1,5 @@
 -- The numbers of names ascend, so the variable of a number is at one place, and that of no name is nowhere.
-use Rattle.std.proofs.Common.{◌≡◌, ◌≢◌, ℕ, zero, suc, ◌+◌, ◌<◌, ◌≤◌, Bool, true, false, ◌&&◌, List, [], ◌∷◌, drop, length, Option, Some, None, refl, sym, ap, subst, ◌∙◌, arith}
+use Rattle.std.proofs.Common.{◌≡◌, ◌≢◌, ℕ, zero, suc, ◌+◌, ◌<◌, ◌≤◌, Bool, true, false, ◌&&◌, List, [], ◌∷◌, drop, Option, Some, None, refl, sym, ap, subst, ◌∙◌, arith}
 use Rattle.std.specs.Prelude.{slice_get, option_map, nat_eq, nat_lt}
 use Rattle.std.proofs.lemmas.Bool.Decides.{nat_tests}
 use Rattle.stm_terms.specs.declared.kinds.Ty.{Ty}
@@ -93,14 +93,6 @@ gap_next known place d e q =
 
 pub gap_here : (known : List Named) (place : ℕ) (d : Named) → slice_get known place ≡ Some d → d.number ≢ place → is_gapless_from place (drop place known) ≡ false
 gap_here known place d e h = let other = apart d.number place h in gap_step known place place d e ∙ ap (λ (b : Bool). b && is_gapless_from (place + 1) (drop (suc place) known)) other
-
-pub gapless_end : (known : List Named) (place : ℕ) → length known ≤ place → is_gapless_from place (drop place known) ≡ true
-gapless_end known place l = dropped known place place l where
-  dropped : (ns : List Named) (i k : ℕ) → length ns ≤ k → is_gapless_from i (drop k ns) ≡ true
-  dropped [] i zero l = refl
-  dropped [] i (suc k) l = refl
-  dropped (n ∷ ns) i zero l = absurd (omega (arith, l))
-  dropped (n ∷ ns) i (suc k) l = dropped ns i k (omega (arith, l))
 
 pub gap_next_at : (known : List Named) (place number : ℕ) → option_map (λ d. d.number) (slice_get known place) ≡ Some number → number ≡ place → is_gapless_from place (drop place known) ≡ is_gapless_from (place + 1) (drop (place + 1) known)
 gap_next_at known place number n q = let p = gap_by known place number (slice_get known place) refl n in gap_next known place p.0 p.1 (p.2 ∙ q)

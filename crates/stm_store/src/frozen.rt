@@ -18,7 +18,7 @@ pub struct Frozen {
 }
 
 impl Model for Frozen {
-    ghost use Rattle.std.specs.Prelude.{List, length, ◌≤◌};
+    ghost use Rattle.std.specs.Prelude.{List};
     ghost use Rattle.stm_terms.specs.declared.kinds.Ty.{Ty};
     ghost use Rattle.stm_terms.specs.declared.values.Value.{Value as AnyValue};
     ghost use Rattle.stm_store.specs.Cells.{plains, IsStore};

@@ -1,6 +1,6 @@
 //! A page of cells.
 
-ghost use Rattle.std.specs.Prelude.{◌≡◌, ◌+◌, ◌<◌, [], ◌∷◌, ◌++◌, Some, length, slice_get, slice_set, IfOk, OnOk, OnErr};
+ghost use Rattle.std.specs.Prelude.{◌≡◌, ◌+◌, ◌<◌, length};
 ghost use Rattle.std.proofs.Common.{lit<};
 ghost use Rattle.stm_store.specs.Pages.{page_cells};
 ghost use Rattle.stm_store.specs.RangeWrites.{AreWithin, with_writes_from};

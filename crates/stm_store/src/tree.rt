@@ -2,7 +2,6 @@
 
 ghost use Rattle.std.specs.Prelude.{◌≡◌, ◌<◌, ◌^◌, [], ◌∷◌, ◌++◌, Some, length, slice_get, slice_set, IfOk, OnOk, OnErr};
 ghost use Rattle.std.specs.Arc.{arc_value};
-ghost use Rattle.stm_store.specs.Pages.{page_cells, part_cells};
 ghost use Rattle.stm_store.specs.RangeWrites.{AreWithin, with_writes_from};
 
 use crate::cell::Cell;

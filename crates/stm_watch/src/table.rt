@@ -3,7 +3,7 @@
 //! A place is the number of a slot, counted from 1; 0 is none. A slot belongs to a variable only if the variable's number is in it,
 //! so the table may hold a place that was given to another variable since.
 
-ghost use Rattle.std.specs.Prelude.{◌≡◌, ℕ, List, ◌<◌, ◌≤◌, ◌&&◌, ◌||◌, ◌++◌, ◌∷◌, [], Some, false, not, nat_eq, length, slice_index_or, IsTrue, IfOk, OnOk, OnErr};
+ghost use Rattle.std.specs.Prelude.{◌≡◌, ℕ, ◌<◌, ◌≤◌, ◌&&◌, ◌||◌, ◌++◌, ◌∷◌, [], Some, false, not, nat_eq, length, slice_index_or, IsTrue, IfOk, OnOk, OnErr};
 ghost use Rattle.std.specs.Vec.{vec_len};
 ghost use Rattle.stm_queue.specs.SortedTickets.{IsRising, member};
 ghost use Rattle.stm_watch.specs.Tabled.{watchers_in, tickets_at, number_at, OtherVariablesStay};

@@ -1,5 +1,5 @@
-use Rattle.std.proofs.Common.{◌≡◌, sym, ◌∙◌, arith}
-use Rattle.stm_store.proofs.KnownNumbers.{gap_next_at, gap_here_at, gapless_end}
+use Rattle.std.proofs.Common.{sym, ◌∙◌}
+use Rattle.stm_store.proofs.KnownNumbers.{gap_next_at, gap_here_at}
 use Rattle.stm_store.proofs.names.Names.is_gapless.Goals as goal
 
 pub returns-then-number_at-place : goal.returns-then-number_at-place

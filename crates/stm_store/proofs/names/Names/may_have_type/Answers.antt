@@ -1,6 +1,6 @@
-use Rattle.std.proofs.Common.{◌≡◌, ◌≢◌, ◌≤◌, ◌<◌, ℕ, false, length, refl, arith, sym, ◌∙◌}
+use Rattle.std.proofs.Common.{◌≢◌, ◌≤◌, false, refl, arith, sym, ◌∙◌}
 use Rattle.std.proofs.lemmas.Bool.{false≢true}
-use Rattle.stm_store.proofs.HeldTypes.{plain_held, held_at_place, nowhere_held, none_next, none_at_all, too_deep}
+use Rattle.stm_store.proofs.HeldTypes.{plain_held, held_at_place, nowhere_held, none_next, none_at_all}
 use Rattle.stm_store.proofs.names.Names.may_have_type.Goals as goal
 
 pub returns-then-kind-eq0 : goal.returns-then-kind-eq0
