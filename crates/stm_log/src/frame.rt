@@ -88,7 +88,7 @@ impl Frame {
         self.news.clear();
     }
 
-    /// A second frame that has changed the same.
+    /// A second frame with the same changes.
     pub(crate) fn copy(&self) -> Result<Frame, NoMemory>
         ensures { IfOk result (λ f. f ≡ self.now) }
     {

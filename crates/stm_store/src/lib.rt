@@ -1,8 +1,12 @@
 //! The declared variables, their names, the store of their values, and unchanging copies of it.
 //!
-//! What a reader has to believe is in `specs/`: `Cells` (what holds of every store, which verdicts fit it, and what
-//! applying one does), `Tables` (what holds of every table, and why a variable can't be declared), `Naming` (the names that blocks may
-//! use), and `Laws` (what applying a verdict keeps).
+//! `table` has the variables that are declared at the start, and `names` all that blocks may use. `store` has their values in
+//! cells (`cell`), and applies verdicts at once or in two steps, by a `ready` one; `frozen` is a copy of it that doesn't change.
+//! `laws` states what a verdict does to a store. The other modules keep cells in pages that copies share, and test types.
+//!
+//! What a reader has to believe is in `specs/`: `Tables` (what holds of every table, and why a variable can't be declared), `Naming`
+//! (the names that blocks may use), `Cells` (what holds of every store, which verdicts fit it, and what applying one does),
+//! `Applying` (what a call that applies a verdict does, by its result), and `Laws` (what applying a verdict keeps).
 #![tactic(auto)]
 
 mod apply;
