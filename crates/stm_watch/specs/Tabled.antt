@@ -8,7 +8,7 @@ use Rattle.stm_watch.specs.declared.table.Table.{Table}
 abbrev pub watchers_in : ℕ → Slot → List ℕ
 watchers_in v s = if nat_eq s.number v then s.watchers else []
 
--- the same of a slot that may be missing
+-- the tickets of this variable in a slot that may be missing
 abbrev pub watchers_found : ℕ → Option Slot → List ℕ
 watchers_found v None = []
 watchers_found v (Some s) = watchers_in v s

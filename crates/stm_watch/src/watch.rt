@@ -61,7 +61,7 @@ impl Watch {
         }
     }
 
-    /// The same for any number of variables. Those that the ticket doesn't watch yet are listed before the first is added.
+    /// The ticket watches each of any number of variables. Those that it doesn't watch yet are listed before the first is added.
     fn add_several(&mut self, ticket: u32, reads: &[(u32, Value)]) -> Result<(), NoMemory>
         ensures ok { OnOk result (WithReads self.old ticket reads.now self.new) }
         ensures err { OnErr result (self.new ≡ self.old) }
@@ -95,7 +95,7 @@ impl Watch {
         }
     }
 
-    /// The same for one variable, whose tickets are kept in ascending order.
+    /// The tickets that watch one variable, which are kept in ascending order.
     fn watchers_of(&self, variable: u32) -> Result<Vec<u32>, NoMemory>
         ensures rising { IfOk result (λ ts. IsStrictlyIncreasing ts.items) }
         ensures watchers { IfOk result (λ ts. (t : ℕ) →
@@ -106,7 +106,7 @@ impl Watch {
         Ok(tickets)
     }
 
-    /// The same for any number of variables.
+    /// The tickets that watch any of these variables, however many there are.
     fn watchers_of_several(&self, variables: &[u32]) -> Result<Vec<u32>, NoMemory>
         ensures rising { IfOk result (λ ts. IsStrictlyIncreasing ts.items) }
         ensures watchers { IfOk result (λ ts. (t : ℕ) →
@@ -134,7 +134,7 @@ impl Watch {
         }
     }
 
-    /// The same for one variable.
+    /// Removes all pairs of one variable, and returns the tickets that watched it.
     fn take_of(&mut self, variable: u32) -> Result<Vec<u32>, NoMemory>
         ensures rising { IfOk result (λ ts. IsStrictlyIncreasing ts.items) }
         ensures watchers { IfOk result (λ ts. (t : ℕ) →
@@ -147,7 +147,7 @@ impl Watch {
         Ok(take_pairs(&mut self.table, variable).into_vec(room))
     }
 
-    /// The same for any number of variables.
+    /// Removes all pairs of these variables, however many there are, and returns the tickets that watched any.
     fn take_of_several(&mut self, variables: &[u32]) -> Result<Vec<u32>, NoMemory>
         ensures rising { IfOk result (λ ts. IsStrictlyIncreasing ts.items) }
         ensures watchers { IfOk result (λ ts. (t : ℕ) →
