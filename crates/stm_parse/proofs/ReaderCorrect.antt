@@ -108,11 +108,11 @@ pub record Good {A : Type 0} (n : ℕ) (r : Reader A) (L : Language A) (F : List
 abbrev pub Any : List Lexeme → Type 0
 Any rest = ⊤
 
--- the same language in other words
+-- a language that is said in other words
 pub good_same : {A : Type 0} (n : ℕ) (r : Reader A) (L M : Language A) (F : List Lexeme → Type 0) → ((us : List At) (a : A) → L us a → M us a) → ((us : List At) (a : A) → M us a → L us a) → Good n r L F → Good n r M F
 good_same n r L M F to back g = record { says = λ toks l. says_more r L M toks to (g.says toks l); reads = λ us a rest l h f. g.reads us a rest l (back us a h) f; some = (g.some.0, g.some.1, to _ _ g.some.2) }
 
--- another tree
+-- a language whose trees a function makes of those of another
 module _ {A B : Type 0} (n : ℕ) (r : Reader A) (f : A → B) (L : Language A) (F : List Lexeme → Type 0) (g : Good n r L F) where
   map_reads : (us : List At) (b : B) → Mapped f L us b → (rest : List Lexeme) → length us + length rest ≤ n → F rest → Reads (λ s. r s >>= λ x. Ok (f x.0, x.1)) us b rest
   map_reads us b (mapped vs a h) rest l k = reads_map r f vs a rest (g.reads vs a rest l h k)

@@ -84,7 +84,7 @@ says_more r L M toks more h = of (r toks) h
     of (Ok x) t = record { us = t.us; text = more _ _ t.text; cut = t.cut; within = t.within; again = t.again }
     of (Err f) t = record { us = t.us; ws = t.ws; tree = t.tree; s = t.s; text = more _ _ t.text; cut = t.cut; within = t.within; left = t.left; points = t.points; again = t.again }
 
--- the same text, another tree
+-- a text that is read as another tree, which a function makes of its tree
 pub says_map : {A B : Type 0} (r : Reader A) (f : A → B) (L : Language A) (toks : List Lexeme) → Says r L toks → Says (λ s. r s >>= λ x. Ok (f x.0, x.1)) (Mapped f L) toks
 says_map r f L toks h = of (r toks) h
   where

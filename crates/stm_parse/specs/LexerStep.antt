@@ -6,7 +6,7 @@ use Rattle.stm_parse.specs.declared.lexer.Piece.{Piece}
 use Rattle.stm_parse.specs.declared.lexer.Piece.TheVariants as piece
 use Rattle.stm_parse.specs.Lexing.{token_kind_of, class_of}
 
--- the same with the class of a token in place of what the grammar sees
+-- what is at the front of some bytes, with the class of a token in place of what the grammar sees
 abbrev pub front_seen : Piece → Front
 front_seen piece.Blank = front.Blank
 front_seen (piece.Found sym n) = front.Found (class_of sym) n
