@@ -19,10 +19,6 @@ regroup : {A B C : Type 0} (r : Result A Fault) (f : A → Result B Fault) (g : 
 regroup (Ok a) f g = refl
 regroup (Err e) f g = refl
 
-under : {A B : Type 0} (r : Result A Fault) (f g : A → Result B Fault) → ((a : A) → f a ≡ g a) → (r >>= f) ≡ (r >>= g)
-under (Ok a) f g h = h a
-under (Err e) f g h = refl
-
 tier_suc : (k n : ℕ) (toks : List Lexeme) → tier_at (suc k) n toks ≡ (tier_at k n toks >>= λ a. tail_at k n a.0 a.1)
 unfolding tier_with tier_at tail_at step_from
 tier_suc k n toks = refl

@@ -20,10 +20,6 @@ pub record AreSeen (bytes : List ℕ) (place : ℕ) (ls : List Lexeme) : Type 0 
   pub rise : SpansRise 0 place (map token_of ls)
   pub seen : ls ≡ lexemes_of bytes (map token_of ls)
 
-with_none : (r : Result (List Token) ParseFault) → with_front [] r ≡ r
-with_none (Ok ts) = refl
-with_none (Err e) = refl
-
 lexemes_more : (text : List ℕ) (ts : List Token) (t : Token) → lexemes_of text (ts ++ t ∷ []) ≡ lexemes_of text ts ++ lexeme_of text t ∷ []
 lexemes_more text [] t = refl
 lexemes_more text (s ∷ ts) t = ap (λ l. lexeme_of text s ∷ l) (lexemes_more text ts t)

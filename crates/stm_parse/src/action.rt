@@ -2,9 +2,9 @@
 //!
 //! An action is boxed as soon as it is whole, so no memory is asked for while its parts wait to be put together.
 
-ghost use Rattle.std.specs.Prelude.{◌≡◌, ◌+◌, ◌-◌, ◌<◌, ◌≤◌, length, List, IfOk, Ok};
-ghost use Rattle.stm_terms.specs.ParsedAst.{RawAct, raw_act_of, return, read, make, throw};
-ghost use Rattle.stm_parse.specs.Grammar.{Placed, deepest, widest};
+ghost use Rattle.std.specs.Prelude.{◌-◌, ◌<◌, ◌≤◌, length, IfOk, Ok};
+ghost use Rattle.stm_terms.specs.ParsedAst.{raw_act_of, return};
+ghost use Rattle.stm_parse.specs.Grammar.{deepest, widest};
 ghost use Rattle.stm_parse.specs.declared.token.Lexeme.{Lexeme};
 ghost use Rattle.stm_parse.specs.DescentResults.{GivesReading, boxed_tree, placed_tree};
 ghost use Rattle.stm_parse.specs.Descent.{atom_at, tier_at, action_at, paren_at, body_at, closed, block, if_of, or_else_of, catch_of, bound, let_bound, sequence, two_operands, flat_action};

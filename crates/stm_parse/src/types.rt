@@ -1,7 +1,6 @@
 //! The descent through types and declarations.
 
-ghost use Rattle.std.specs.Prelude.{◌≡◌, ◌+◌, ◌-◌, ◌<◌, ◌≤◌, suc, length, IfOk};
-ghost use Rattle.stm_terms.specs.ParsedAst.{raw_term_of};
+ghost use Rattle.std.specs.Prelude.{◌+◌, ◌-◌, ◌<◌, ◌≤◌, length, IfOk};
 ghost use Rattle.stm_terms.specs.Limits.{most_refs};
 ghost use Rattle.stm_parse.specs.Grammar.{deepest};
 ghost use Rattle.stm_parse.specs.Declarations.{declaration_tree_of};
