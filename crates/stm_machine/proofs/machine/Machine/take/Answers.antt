@@ -1,4 +1,4 @@
-use Rattle.std.proofs.Common.{refl, sym, subst}
+use Rattle.std.proofs.Common.{◌≡◌, length, refl, rules, sym, subst}
 use Rattle.stm_machine.specs.Machine.{Parts, IsAt}
 use Rattle.stm_machine.specs.JobsHandedOut.{AreJobs}
 use Rattle.stm_machine.proofs.States.{covered_at, requeued}
@@ -17,6 +17,7 @@ returns-clause-taken c =
     let s = c.requires.0 in let h = c.requires.1 in
     let k = subst (λ (m : Parts). IsAt m s) (sym c.self.view_is) h in
     let js : AreJobs s c.in_ok-jobs.jobs.items = are_jobs s c.self.inside.waiting c.in_ok-jobs.jobs.items k.stands.entries_are c.in_ok-jobs.ensures.blocks in
+    let n : c.len.result ≡ length c.in_ok-jobs.jobs.items = search rules in
     (record {
       tickets = rw (← c.self.view_is) c.in_ok-jobs.ensures.tickets;
       blocks = λ s h.
@@ -25,7 +26,7 @@ returns-clause-taken c =
       present = rw (← c.self.view_is) c.in_ok-frozen.ensures;
       covered = rw (c.in_ok-frozen.ensures, k.stands.store_is) (are_covered s c.in_ok-jobs.jobs.items (covered_at _ s k) js);
       few = c.in_ok-jobs.ensures.few;
-    }, rw (c.send_out.ensures, c.len.ensures, ← c.self.view_is) refl)
+    }, rw (c.send_out.ensures, n, ← c.self.view_is) refl)
 
 pub returns-clause-kept : goal.returns-clause-kept
 returns-clause-kept c = λ s h.
