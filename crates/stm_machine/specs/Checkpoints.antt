@@ -256,7 +256,7 @@ abbrev pub started_by : StalenessRule → List Declared → Option CheckpointVie
 started_by rule table None = initial_state rule table
 started_by rule table (Some c) = checkpoint_state c
 
--- the same by the present rule
+-- the state that a history begins on, by the present rule
 abbrev pub start_of : List Declared → Option CheckpointView → Slow
 start_of = started_by Changed
 

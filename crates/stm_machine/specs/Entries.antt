@@ -28,7 +28,7 @@ AreDue [] (w ∷ ws) = ⊥
 AreDue (e ∷ es) [] = ⊥
 AreDue (e ∷ es) (w ∷ ws) = IsDue e w × AreDue es ws
 
--- the same, of the block under a ticket
+-- what was read at the last delivery of the block under a ticket, if there is one
 abbrev pub kept_reads : Option Waiting → List (ℕ × Value)
 kept_reads None = []
 kept_reads (Some w) = held_reads w.held
@@ -38,7 +38,7 @@ abbrev pub held_ends : Option Held → Bool
 held_ends None = false
 held_ends (Some h) = not (is_blocks h.verdict)
 
--- the same, of the block under a ticket
+-- the last delivery of the block under a ticket, if there is one, doesn't block
 abbrev pub kept_ends : Option Waiting → Bool
 kept_ends None = false
 kept_ends (Some w) = held_ends w.held

@@ -48,7 +48,7 @@ fn insert_watched(
     }
 }
 
-/// The same, with its verdict and what was read.
+/// One block more, after the others, with its verdict and what was read, which its ticket watches.
 fn insert_current(
     waiting: &mut WaitingBlocks,
     watch: &mut Watch,

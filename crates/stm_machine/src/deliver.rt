@@ -109,7 +109,7 @@ impl Machine {
         self.may_deliver_own(message)
     }
 
-    /// The same of a message that is of the block that waits under its ticket, if one does: its block is not compared.
+    /// Why a message can't be delivered that is of the block that waits under its ticket, if one does: its block is not compared.
     pub fn may_deliver_own(&self, message: &Evaluated) -> Result<(), DeliverError>
         requires own { (s : Slow) → IsAt self.now s → IsOfWaiter s message.now }
         ensures refused { RefusesMessage self.now message.now result }

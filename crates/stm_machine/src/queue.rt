@@ -1,4 +1,4 @@
-//! Work that is handed out, and comes back. No event tells of it: the machine stays at its state.
+//! Work that is handed out, and comes back. No event is of it: the machine stays at its state.
 
 ghost use Rattle.std.specs.Prelude.{◌≡◌, ◌≢◌, ◌≤◌, ℕ, true, false, None, map, take, vec_len, IfOk};
 ghost use Rattle.stm_queue.specs.Queue.{has_ticket, queued, is_out, marked, recalled};
@@ -103,7 +103,7 @@ impl Machine {
         self.pending.hand_back(ticket)
     }
 
-    /// A message of the ticket was refused. Where it was overtaken and its ticket is out, the ticket is queued again.
+    /// A message of the ticket was refused. If it was overtaken and its ticket is out, the ticket is queued again.
     pub fn after_refusal(&mut self, refusal: DeliverError, ticket: u32)
         ensures left { self.new
             ≡ record self.old { pending = pending_left refusal ticket self.old.pending } }
