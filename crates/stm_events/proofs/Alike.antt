@@ -77,7 +77,7 @@ verdict_there New = None
 verdict_there (Stale v) = v
 verdict_there (Current v) = v
 
--- the same with this verdict for a current block
+-- the standing with this verdict for a current block
 abbrev with_present : Option Verdict → Standing → Standing
 with_present present New = New
 with_present present (Stale v) = Stale v

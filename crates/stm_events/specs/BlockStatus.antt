@@ -20,7 +20,7 @@ abbrev pub read_since_then : Block → Option Since → Option (List (ℕ × Val
 read_since_then block None = None
 read_since_then block (Some s) = Some (reads_of (under s.store_then) block.tree)
 
--- the same of a waiting block, if there is one
+-- what a waiting block read at its last delivery, if there is a block
 abbrev pub read_then : Option Waiter → Option (List (ℕ × Value))
 read_then None = None
 read_then (Some w) = read_since_then w.block w.since

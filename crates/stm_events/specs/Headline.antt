@@ -33,7 +33,7 @@ waking_at s (Cancelled t) = []
 waking_at s (DeclaredLate name kind value) = []
 waking_at s (Labelled t label) = []
 
--- the same of these events, which begin on a state
+-- the variables by which these events, which begin on a state, make their readers stale
 abbrev pub waking_from : Slow → List Event → List ℕ
 waking_from s [] = []
 waking_from s (e ∷ es) = waking_at s e.what ++ waking_from (after s e.what) es

@@ -211,7 +211,7 @@ state_from s (e ∷ es) = state_from (after s e.what) es
 abbrev pub state_by : StalenessRule → List Declared → List Event → Slow
 state_by rule table history = state_from (initial_state rule table) history
 
--- the same by the present rule
+-- what a history makes of a table, by the present rule
 abbrev pub state : List Declared → List Event → Slow
 state = state_by Changed
 
@@ -225,7 +225,7 @@ pub record IsLegalBy (rule : StalenessRule) (table : List Declared) (history : L
   pub each : LegalFrom (initial_state rule table) history
   pub few : length history ≤ max_events
 
--- the same by the present rule
+-- each event in turn is allowed, by the present rule, and there are no more than there may be
 abbrev pub IsLegal : List Declared → List Event → Type 0
 IsLegal = IsLegalBy Changed
 
@@ -246,13 +246,13 @@ standing_since store block (Some s) =
 abbrev pub standing : List Cell → Waiter → Standing
 standing store w = standing_since store w.block w.since
 
--- the same, with the verdict of the delivery for a current block too
+-- how a block stands, by its last delivery, with the verdict of the delivery for a current block too
 abbrev pub weak_since : Block → Option Since → Standing
 weak_since block None = New
 weak_since block (Some s) =
     if is_stale_since block s then Stale (verdict_on s.store_then block) else Current (verdict_on s.store_then block)
 
--- the same of a waiting block
+-- how a waiting block stands, with the verdict of its delivery if it is stale or current
 abbrev pub weak_standing : Waiter → Standing
 weak_standing w = weak_since w.block w.since
 

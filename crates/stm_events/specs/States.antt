@@ -30,7 +30,7 @@ IsUnwoken store None = Unit {0}
 IsUnwoken store (Some s) =
     (i : ℕ) (x : Value) → list_any (nat_eq i) s.woken ≡ false → under s.store_then i ≡ Some x → under store i ≡ Some x
 
--- the same for each waiting block
+-- each variable that woke nobody since the delivery of a waiting block has the value that it had then
 abbrev pub AreUnwoken : List Cell → List Waiter → Type 0
 AreUnwoken store [] = Unit {0}
 AreUnwoken store (w ∷ ws) = IsUnwoken store w.since × AreUnwoken store ws
@@ -40,7 +40,7 @@ abbrev pub HadVerdict : Block → Option Since → Type 0
 HadVerdict block None = Unit {0}
 HadVerdict block (Some s) = is_some (verdict_on s.store_then block) ≡ true
 
--- the same for each waiting block
+-- each waiting block had a verdict at its last delivery, if there was one
 abbrev pub HadVerdicts : List Waiter → Type 0
 HadVerdicts [] = Unit {0}
 HadVerdicts (w ∷ ws) = HadVerdict w.block w.since × HadVerdicts ws
@@ -91,7 +91,7 @@ WasTyped store (Some s) =
     StoreIsTyped (plains s.store_then)
     × ((i : ℕ) (k : Ty) → kinds_of (plains s.store_then) i ≡ Some k → kinds_of (plains store) i ≡ Some k)
 
--- the same for each waiting block
+-- of each waiting block the store of its delivery was well typed, and its variables are there still, with their types
 abbrev pub WereTyped : List Cell → List Waiter → Type 0
 WereTyped store [] = Unit {0}
 WereTyped store (w ∷ ws) = WasTyped store w.since × WereTyped store ws

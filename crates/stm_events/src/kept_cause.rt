@@ -19,7 +19,7 @@ pub struct KeptCause {
 }
 
 impl KeptCause {
-    /// The same once more.
+    /// A copy of the cause.
     pub fn copy(&self, alloc: Global) -> Result<KeptCause, NoMemory>
         ensures { IfOk result (λ c. c ≡ self.now) }
     {

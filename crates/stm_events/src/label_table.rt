@@ -54,7 +54,7 @@ impl LabelTable {
         }
     }
 
-    /// The same, as many may hold it.
+    /// The label of a ticket, as many may hold it.
     pub fn shared(&self, ticket: u32) -> Result<SharedName, NoMemory>
         ensures { IfOk result (λ n. n ≡ label_of ticket self.now) }
     {

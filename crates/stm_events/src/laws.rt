@@ -36,8 +36,8 @@ pub fn store_is_serial()
     ensures { StoreIsSerial }
 {}
 
-/// After every legal history, each waiting block to which something was delivered is marked stale exactly where a block that
-/// finished since its last delivery changed a variable that its evaluation read; where it isn't marked so, the verdict of that
+/// After every legal history, each waiting block to which something was delivered is marked stale exactly if a block that
+/// finished since its last delivery changed a variable that its evaluation read; if it isn't marked so, the verdict of that
 /// delivery is the one that running it from scratch on the present store gives; and the store is that of running the
 /// finished blocks alone, one after another. By the rule of earlier histories the same holds with "wrote" for "changed".
 pub fn headline()

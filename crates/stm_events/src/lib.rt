@@ -5,7 +5,11 @@
 //! `specs/Rounds` the same in rounds, `specs/Ready` which blocks could finish now, `specs/Refusals` why each call is refused,
 //! `specs/Headline` which blocks are marked stale and what the verdicts of the others are worth, and `specs/Laws` what else
 //! holds after every legal history (`laws`).
-//! `specs/Labels` says which labels waiting blocks have, `specs/KeptCauses` how a checkpoint keeps why blocks are stale. `same` returns whether two events are equal.
+//! `specs/Labels` says which labels waiting blocks have, `specs/KeptCauses` how a checkpoint keeps why blocks are stale.
+//!
+//! `event` has the events, over `shared_verdict`, `shared_name` and `tickets`, which many may hold; `same` returns whether two are equal.
+//! `errors` has why calls are refused, `status` how a block stands, `staleness` the rules by which blocks become stale, `delivery` what
+//! a last delivery brought, `label` and `label_table` the labels, `kept_cause` the causes that a checkpoint keeps, and `laws` the laws.
 #![tactic(auto)]
 
 pub mod delivery;

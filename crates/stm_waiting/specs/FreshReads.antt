@@ -10,7 +10,7 @@ AreFresh (Some rs) held reads = rs ≡ reads
 AreFresh None None reads = ⊥
 AreFresh None (Some h) reads = length h.reads ≡ length reads
 
--- the same of the block under a ticket, if there is one
+-- a list of reads is these reads, or what is kept of the block under a ticket has as many, if there is a block
 abbrev pub AreFreshFor : Option (List (ℕ × Value)) → Option Waiting → List (ℕ × Value) → Type 0
 AreFreshFor fresh None reads = Unit {0}
 AreFreshFor fresh (Some w) reads = AreFresh fresh w.held reads

@@ -12,11 +12,11 @@ use Rattle.stm_waiting.specs.Entries.{kept}
 abbrev pub waiting_in : ℕ → Slot → Option Waiting
 waiting_in t s = if nat_eq s.number t then s.waiting else None
 
--- what is kept there, where it is this ticket's with what a delivery brought
+-- what is kept there, if it is this ticket's, with what a delivery brought
 abbrev pub with_owned : ℕ → Held → Slot → Option Waiting
 with_owned t held s = if nat_eq s.number t then option_map (kept held) s.waiting else s.waiting
 
--- the same of a place that there may be
+-- what is kept at a place that there may be, if it is this ticket's
 abbrev pub waiting_found : ℕ → Option Slot → Option Waiting
 waiting_found t None = None
 waiting_found t (Some s) = waiting_in t s

@@ -92,7 +92,7 @@ fn fresh_in(waiting: &Waiting, scratch: &Scratch) -> Result<Option<Reads>, NoMem
     }
 }
 
-/// The same for the block of a ticket at this place.
+/// The reads that `keep_reads` is to put into the block of a ticket at this place.
 pub(crate) fn fresh_at(
     slots: &[Slot],
     place: u32,
