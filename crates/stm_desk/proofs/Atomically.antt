@@ -135,9 +135,6 @@ is_due d b atomic.HistoryFull p h = h (λ q. cc)
 is_due d b atomic.CellsFull p h = h (λ q. cc)
 is_due d b atomic.NoMemory p h = p
 
-pub memory_is_due : (d : DeskView) (b : Block) (e : AtomicError) → e ≡ atomic.NoMemory → atomic_refusal_before d b ≡ None → IsAtomicError d b e
-memory_is_due d b e is p = subst (IsAtomicError d b) (sym is) p
-
 pub are_due : {A : Type 0} (d : DeskView) (b : Block) (r : Result A AtomicError) → atomic_refusal_before d b ≡ None → IfErr r (λ e. e ≢ atomic.NoMemory → atomic_refusal d b ≡ Some e) → IfErr r (IsAtomicError d b)
 are_due d b (Ok x) p h = tt
 are_due d b (Err e) p h = is_due d b e p h

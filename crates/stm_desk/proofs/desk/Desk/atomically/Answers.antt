@@ -1,4 +1,4 @@
-use Rattle.stm_desk.proofs.Atomically.{is_reason, memory_is_due, are_due, none_before}
+use Rattle.stm_desk.proofs.Atomically.{is_reason, are_due, none_before}
 use Rattle.stm_desk.proofs.desk.Desk.atomically.Goals as goal
 
 pub returns-in-Err-clause-refused : goal.returns-in-Err-clause-refused

@@ -15,13 +15,16 @@ hold-requires c =
     rw c.ticket-ticket.ensures (queued_wait _ s k (message_ticket m) (deliver_queued _ s m k c.requires.2))
 
 pub returns-in-Ok-clause-done : goal.returns-in-Ok-clause-done
-returns-in-Ok-clause-done c = (λ z h.
-    let s = c.requires.0 in
-    let k = subst (λ (m : Parts). IsAt m s) (sym c.self.view_is) c.requires.1 in
-    let l = subst (λ (m : Parts). IsAt m z) (sym c.self.view_is) h in
-    let m = c.args.message in
-    rw (c.hold.ensures, c.remove.ensures.gone, c.ticket-ticket.ensures, c.into_parts-reads.ensures.reads, c.in-Ok.ensures.verdicts.0)
-    (moves_deliver _ s z _ m k c.requires.2 l (λ S a. to_store (message_block m).tree (message_reads m) (message_verdict m) S (record { defined = m.defined; all_read = m.all_read }) a) c.in-Ok.ensures.watch), rw (c.remove.ensures.gone, c.ticket-ticket.ensures, ← c.self.view_is) refl)
+returns-in-Ok-clause-done c = (
+  λ z h.
+      let s = c.requires.0 in
+      let k = subst (λ (m : Parts). IsAt m s) (sym c.self.view_is) c.requires.1 in
+      let l = subst (λ (m : Parts). IsAt m z) (sym c.self.view_is) h in
+      let m = c.args.message in
+      rw (c.hold.ensures, c.remove.ensures.gone, c.ticket-ticket.ensures, c.into_parts-reads.ensures.reads, c.in-Ok.ensures.verdicts.0)
+      (moves_deliver _ s z _ m k c.requires.2 l (λ S a. to_store (message_block m).tree (message_reads m) (message_verdict m) S (record { defined = m.defined; all_read = m.all_read }) a) c.in-Ok.ensures.watch),
+  rw (c.remove.ensures.gone, c.ticket-ticket.ensures, ← c.self.view_is) refl,
+)
 
 pub add_if-requires-clause-absent : goal.add_if-requires-clause-absent
 add_if-requires-clause-absent c =

@@ -23,13 +23,16 @@ queue_all-requires-clause-absent c =
     rw (c.as_slice-stale.ensures, c.take_effect.ensures.entries) (plan_absent _ s k _ _ _ _ c.requires.2)
 
 pub returns-in-Ok-clause-done : goal.returns-in-Ok-clause-done
-returns-in-Ok-clause-done c = (λ z h.
-    let s = c.requires.0 in
-    let k = subst (λ (m : Parts). IsAt m s) (sym c.self.view_is) c.requires.1 in
-    let l = subst (λ (m : Parts). IsAt m z) (sym c.self.view_is) h in
-    rw (c.forget.ensures.gone, c.queue_all.ensures, c.as_slice-stale.ensures, c.take_effect.ensures.entries)
-    (moves_finish _ s z _ _ c.args.ticket _ _ _ k c.requires.2 l c.in-Ok.ensures.store
-    (record { between = c.unwatch_all.new.watch; others = rw (← c.as_slice-stale.ensures) c.unwatch_all.ensures; itself = c.forget.ensures.unwatched })), rw (c.queue_all.ensures, c.as_slice-stale.ensures, c.take_effect.ensures.entries, ← c.self.view_is) refl)
+returns-in-Ok-clause-done c = (
+  λ z h.
+      let s = c.requires.0 in
+      let k = subst (λ (m : Parts). IsAt m s) (sym c.self.view_is) c.requires.1 in
+      let l = subst (λ (m : Parts). IsAt m z) (sym c.self.view_is) h in
+      rw (c.forget.ensures.gone, c.queue_all.ensures, c.as_slice-stale.ensures, c.take_effect.ensures.entries)
+      (moves_finish _ s z _ _ c.args.ticket _ _ _ k c.requires.2 l c.in-Ok.ensures.store
+      (record { between = c.unwatch_all.new.watch; others = rw (← c.as_slice-stale.ensures) c.unwatch_all.ensures; itself = c.forget.ensures.unwatched })),
+  rw (c.queue_all.ensures, c.as_slice-stale.ensures, c.take_effect.ensures.entries, ← c.self.view_is) refl,
+)
 
 pub invariant_of-self : goal.invariant_of-self
 invariant_of-self c =

@@ -17,16 +17,18 @@ returns-clause-taken c =
     let s = c.requires.0 in let h = c.requires.1 in
     let k = subst (λ (m : Parts). IsAt m s) (sym c.self.view_is) h in
     let js : AreJobs s c.in_ok-jobs.jobs.items = are_jobs s c.self.inside.waiting c.in_ok-jobs.jobs.items k.stands.entries_are c.in_ok-jobs.ensures.blocks in
-    let n : c.len.result ≡ length c.in_ok-jobs.jobs.items = search rules in
-    (record {
-      tickets = rw (← c.self.view_is) c.in_ok-jobs.ensures.tickets;
-      blocks = λ s h.
-          let k = subst (λ (m : Parts). IsAt m s) (sym c.self.view_is) h in
-          are_jobs s c.self.inside.waiting c.in_ok-jobs.jobs.items k.stands.entries_are c.in_ok-jobs.ensures.blocks;
-      present = rw (← c.self.view_is) c.in_ok-frozen.ensures;
-      covered = rw (c.in_ok-frozen.ensures, k.stands.store_is) (are_covered s c.in_ok-jobs.jobs.items (covered_at _ s k) js);
-      few = c.in_ok-jobs.ensures.few;
-    }, rw (c.send_out.ensures, n, ← c.self.view_is) refl)
+    let n : c.len.result ≡ length c.in_ok-jobs.jobs.items = search rules in (
+      record {
+        tickets = rw (← c.self.view_is) c.in_ok-jobs.ensures.tickets;
+        blocks = λ s h.
+            let k = subst (λ (m : Parts). IsAt m s) (sym c.self.view_is) h in
+            are_jobs s c.self.inside.waiting c.in_ok-jobs.jobs.items k.stands.entries_are c.in_ok-jobs.ensures.blocks;
+        present = rw (← c.self.view_is) c.in_ok-frozen.ensures;
+        covered = rw (c.in_ok-frozen.ensures, k.stands.store_is) (are_covered s c.in_ok-jobs.jobs.items (covered_at _ s k) js);
+        few = c.in_ok-jobs.ensures.few;
+      },
+      rw (c.send_out.ensures, n, ← c.self.view_is) refl,
+    )
 
 pub returns-clause-kept : goal.returns-clause-kept
 returns-clause-kept c = λ s h.
