@@ -32,7 +32,3 @@ few_after s (Finished t v n k) a h = let l = length-map (without_waiter t s.wait
 few_after s (Cancelled t) a h = let m = length_without t s.waiters in omega (arith, h, m)
 few_after s (DeclaredLate name kind value) a h = h
 few_after s (Labelled t label) a h = h
-
-pub few_from : (s : Slow) (es : List Event) → LegalFrom s es → length s.waiters ≤ max_waiting → length (state_from s es).waiters ≤ max_waiting
-few_from s [] l h = h
-few_from s (e ∷ es) l h = few_from (after s e.what) es l.1 (few_after s e.what l.0.what h)

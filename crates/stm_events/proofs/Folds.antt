@@ -25,12 +25,6 @@ pub legal_split : (s : Slow) (es : List Event) (e : Event) → LegalFrom s (es +
 legal_split s [] e l = record { before = tt; allowed = l.0 }
 legal_split s (d ∷ es) e l = let r = legal_split (after s d.what) es e l.1 in record { before = (l.0, r.before); allowed = r.allowed }
 
-pub is_legal-push : (rule : StalenessRule) (table : List Declared) (es : List Event) (e : Event) → IsLegalBy rule table es → length es + 1 ≤ max_events → AllowsEvent (state_by rule table es) e → IsLegalBy rule table (es ++ e ∷ [])
-is_legal-push rule table es e l few a = record {
-  each = legal-push (initial_state rule table) es e l.each a;
-  few = omega (arith, length-append es (e ∷ []));
-}
-
 -- ---- the rule, which no event changes
 pub after-rule : (s : Slow) (d : What) → (after s d).rule ≡ s.rule
 after-rule s (Submitted t b) = refl

@@ -22,7 +22,6 @@ pub mod Rounds
 pub mod Running
 pub mod Serial
 pub mod SettlingAllowed
-pub mod Since
 pub mod SinceFrom
 pub mod Stores
 pub mod TypedStores

@@ -19,19 +19,12 @@ use Rattle.stm_machine.proofs.BlocksByTicket.{below_more, below_push, named_more
 pub drop_at : (bs : List CheckpointBlock) (i : ℕ) (b : CheckpointBlock) → i < length bs → b ≡ get_or bs i b → drop i bs ≡ b ∷ drop (i + 1) bs
 drop_at bs i b l e = at_drop_more (λ (xs : List CheckpointBlock). xs) bs i b l ∙ ap (λ (x : CheckpointBlock). x ∷ drop (i + 1) bs) (sym e)
 
-none_left : (a b : Bool) → b ≡ false → (a || b) ≡ a
-none_left true b h = refl
-none_left false b h = h
-
 -- ---- the entries
 pub record AreEntries (all left : List CheckpointBlock) (es : List (ℕ × Waiting)) : Type 0 where
   pub entries : es ++ map entry_of left ≡ map entry_of all
   pub last : ℕ
   pub rises : TicketsAscend last left
   pub below : AllBelow (last + 1) es
-
-pub entries_start : (all : List CheckpointBlock) → TicketsAscend 0 all → AreEntries all all []
-entries_start all r = record { entries = refl; last = 0; rises = r; below = tt }
 
 regroup : (es : List (ℕ × Waiting)) (e : ℕ × Waiting) (rest : List (ℕ × Waiting)) → (es ++ e ∷ []) ++ rest ≡ es ++ e ∷ rest
 regroup [] e rest = refl
@@ -56,13 +49,6 @@ entry_next all left rest b es fs e f a =
       below = subst (AllBelow (b.ticket + 1)) (sym f) (below_push (b.ticket + 1) (entry_of b) es (below_more (a.last + 1) (b.ticket + 1) es (omega arith) a.below) (omega arith));
     }
 
-nothing_more : (es : List (ℕ × Waiting)) → es ++ [] ≡ es
-nothing_more [] = refl
-nothing_more (e ∷ es) = ap (λ (xs : List (ℕ × Waiting)). e ∷ xs) (nothing_more es)
-
-pub entries_end : (all left : List CheckpointBlock) (es : List (ℕ × Waiting)) → left ≡ [] → AreEntries all left es → es ≡ map entry_of all
-entries_end all left es e a = sym (nothing_more es) ∙ ap (λ (bs : List CheckpointBlock). es ++ map entry_of bs) (sym e) ∙ a.entries
-
 -- ---- the queue
 pub record AreDueTickets (all left : List CheckpointBlock) (es : List Entry) : Type 0 where
   pub due : (t : ℕ) → (has_ticket t es || has_block is_due_block t left) ≡ has_block is_due_block t all
@@ -70,14 +56,6 @@ pub record AreDueTickets (all left : List CheckpointBlock) (es : List Entry) : T
   pub rises : TicketsAscend last left
   pub none_above : (t : ℕ) → last < t → has_ticket t es ≡ false
   pub none_out : some_out es ≡ false
-
-pub due_start : (all : List CheckpointBlock) → TicketsAscend 0 all → AreDueTickets all all []
-due_start all r = record { due = λ t. refl; last = 0; rises = r; none_above = λ t l. refl; none_out = refl }
-
-pub due_absent : (all left rest : List CheckpointBlock) (b : CheckpointBlock) (es : List Entry) → left ≡ b ∷ rest → AreDueTickets all left es → has_ticket b.ticket es ≡ false
-due_absent all left rest b es e a =
-    let r : TicketsAscend a.last (b ∷ rest) = subst (TicketsAscend a.last) e a.rises in
-    a.none_above b.ticket r.0
 
 due_more : (all left rest : List CheckpointBlock) (b : CheckpointBlock) (es : List Entry) → left ≡ b ∷ rest → is_due_block b ≡ true → AreDueTickets all left es → AreDueTickets all rest (with_ticket b.ticket es)
 due_more all left rest b es e f a =
@@ -111,23 +89,12 @@ due_same all left rest b es e f a =
 pub due_passed : (all left rest : List CheckpointBlock) (b : CheckpointBlock) (es fs : List Entry) → left ≡ b ∷ rest → is_due_block b ≡ false → fs ≡ es → AreDueTickets all left es → AreDueTickets all rest fs
 due_passed all left rest b es fs e f g a = subst (AreDueTickets all rest) (sym g) (due_same all left rest b es e f a)
 
-pub due_end : (all left : List CheckpointBlock) (es : List Entry) → left ≡ [] → AreDueTickets all left es → (t : ℕ) → has_ticket t es ≡ has_block is_due_block t all
-due_end all left es e a t = sym (none_left (has_ticket t es) (has_block is_due_block t left) (ap (has_block is_due_block t) e)) ∙ a.due t
-
 -- ---- the blocks that could finish
 pub record AreReadyTickets (all left : List CheckpointBlock) (ts : List ℕ) : Type 0 where
   pub ready : (t : ℕ) → (member t ts || has_block is_ready_block t left) ≡ has_block is_ready_block t all
   pub last : ℕ
   pub rises : TicketsAscend last left
   pub none_above : (t : ℕ) → last < t → member t ts ≡ false
-
-pub ready_start : (all : List CheckpointBlock) → TicketsAscend 0 all → AreReadyTickets all all []
-ready_start all r = record { ready = λ t. refl; last = 0; rises = r; none_above = λ t l. refl }
-
-pub ready_absent : (all left rest : List CheckpointBlock) (b : CheckpointBlock) (ts : List ℕ) → left ≡ b ∷ rest → AreReadyTickets all left ts → member b.ticket ts ≡ false
-ready_absent all left rest b ts e a =
-    let r : TicketsAscend a.last (b ∷ rest) = subst (TicketsAscend a.last) e a.rises in
-    a.none_above b.ticket r.0
 
 above : (t n : ℕ) → n < t → nat_eq t n ≡ false
 above t n l = grind (arith, nat_tests)
@@ -160,26 +127,9 @@ ready_same all left rest b ts e f a =
 pub ready_passed : (all left rest : List CheckpointBlock) (b : CheckpointBlock) (ts us : List ℕ) → left ≡ b ∷ rest → is_ready_block b ≡ false → us ≡ ts → AreReadyTickets all left ts → AreReadyTickets all rest us
 ready_passed all left rest b ts us e f g a = subst (AreReadyTickets all rest) (sym g) (ready_same all left rest b ts e f a)
 
-pub ready_end : (all left : List CheckpointBlock) (ts : List ℕ) → left ≡ [] → AreReadyTickets all left ts → (t : ℕ) → member t ts ≡ has_block is_ready_block t all
-ready_end all left ts e a t = sym (none_left (member t ts) (has_block is_ready_block t left) (ap (has_block is_ready_block t) e)) ∙ a.ready t
-
 -- ---- the index
 abbrev pub AreRead : List CheckpointBlock → List CheckpointBlock → Pairs → Type 0
 AreRead all left watch = (v t : ℕ) → (has_pair watch v t || has_block (watches_variable v) t left) ≡ has_block (watches_variable v) t all
 
-pub read_next : (all left rest : List CheckpointBlock) (b : CheckpointBlock) (old new : Pairs) → left ≡ b ∷ rest → is_due_block b ≡ false → WithReads old b.ticket (held_reads b.waiting.held) new → AreRead all left old → AreRead all rest new
-read_next all left rest b old new e f more a = λ v t.
-    ap (λ (x : Bool). x || has_block (watches_variable v) t rest) (more v t)
-    ∙ read_more (has_pair old v t) (nat_eq t b.ticket) (is_due_block b) (is_read (held_reads b.waiting.held) v) (has_block (watches_variable v) t rest) _ f
-    (ap (λ (bs : List CheckpointBlock). has_pair old v t || has_block (watches_variable v) t bs) (sym e) ∙ a v t)
-
-pub read_passed : (all left rest : List CheckpointBlock) (b : CheckpointBlock) (watch : Pairs) → left ≡ b ∷ rest → is_due_block b ≡ true → AreRead all left watch → AreRead all rest watch
-read_passed all left rest b watch e f a = λ v t.
-    read_same (has_pair watch v t) (nat_eq t b.ticket) (is_due_block b) (is_read (held_reads b.waiting.held) v) (has_block (watches_variable v) t rest) _ f
-    (ap (λ (bs : List CheckpointBlock). has_pair watch v t || has_block (watches_variable v) t bs) (sym e) ∙ a v t)
-
 pub read_start : (all : List CheckpointBlock) → AreRead all all set.empty
 read_start all = λ v t. ap (λ (x : Bool). x || has_block (watches_variable v) t all) (set.contains-empty pair_cmp (v, t))
-
-pub read_end : (all left : List CheckpointBlock) (watch : Pairs) → left ≡ [] → AreRead all left watch → (v t : ℕ) → has_pair watch v t ≡ has_block (watches_variable v) t all
-read_end all left watch e a v t = sym (none_left (has_pair watch v t) (has_block (watches_variable v) t left) (ap (has_block (watches_variable v) t) e)) ∙ a v t

@@ -162,19 +162,6 @@ next_by pending all i after blocks done (e ∷ rest) split count made below rise
 pub walk_next : (pending : List Entry) (all : List (ℕ × Waiting)) (i after : ℕ) (blocks : List CheckpointBlock) → IsWalked pending all i after blocks → i < length all → IsNext pending all i after blocks
 walk_next pending all i after blocks w l = next_by pending all i after blocks w.done w.rest w.split w.count w.made w.below w.rises l
 
-end_by : (pending : List Entry) (all : List (ℕ × Waiting)) (blocks : List CheckpointBlock) (done rest : List (ℕ × Waiting)) → all ≡ done ++ rest → length done ≡ length all → blocks ≡ map (block_of pending) done
-    → blocks ≡ map (block_of pending) all
-end_by pending all blocks done [] split count made = made ∙ ap (map (block_of pending)) (sym (split ∙ nothing_left done))
-end_by pending all blocks done (e ∷ rest) split count made =
-    let n : length all ≡ length done + suc (length rest) = ap length split ∙ length-append done (e ∷ rest) in
-    absurd (omega arith)
-
-pub walk_end : (pending : List Entry) (all : List (ℕ × Waiting)) (i after : ℕ) (blocks : List CheckpointBlock) → IsWalked pending all i after blocks → i ≡ length all → blocks ≡ map (block_of pending) all
-walk_end pending all i after blocks w l = end_by pending all blocks w.done w.rest w.split (w.count ∙ l) w.made
-
-pub walk_start : (pending : List Entry) (all : List (ℕ × Waiting)) → EntriesRise 0 all → IsWalked pending all 0 0 []
-walk_start pending all r = record { done = []; rest = all; split = refl; count = refl; made = refl; below = tt; rises = r }
-
 pub not_ended : (pending : List Entry) (all : List (ℕ × Waiting)) (i after : ℕ) (blocks : List CheckpointBlock) → IsNext pending all i after blocks → first_above after all ≡ None → ⊥
 not_ended pending all i after blocks n e = let f = n.first in cc
 

@@ -35,16 +35,6 @@ pub holds_present : (store : List Cell) (block : Block) (stale : Bool) (h : Held
 holds_present store block stale h same d = holds_again block.tree h.reads h.verdict (under (store_with h.reads store)) (under store) d.1 (none_differs (under store) h.reads same)
 
 -- ---- one with another value
-some_read : (store : List Cell) (reads : List (ℕ × Value)) (i : ℕ) → differing (under store) reads ≡ Some i → reads ≢ []
-some_read store [] i e n = cc
-some_read store (r ∷ rs) i e n = cc
-
-pub right_absent : (store : List Cell) (block : Block) (stale : Bool) (h : Held) (i : ℕ) → differing (under store) h.reads ≡ Some i → stale ≡ true → Fits (plains store) (Commits h.reads [] value.Unit)
-    → Holds block.tree (under (store_with h.reads store)) h.reads h.verdict → IsRightDelivery store block stale (Some h)
-right_absent store block stale h i other is_stale fits holds = (fits, holds, λ f. cc, λ t. some_read store h.reads i other)
-
-pub not_absent : (store : List Cell) (block : Block) (stale : Bool) (h : Held) (i : ℕ) → differing (under store) h.reads ≡ Some i → stale ≡ false → IsRightDelivery store block stale (Some h) → ⊥
-not_absent store block stale h i other fresh d = let same = d.2 fresh in cc
 
 -- ---- one block more
 last_at : (k i : ℕ) (bs : List CheckpointBlock) (d : CheckpointBlock) → suc i ≡ length bs → (slice_index_or bs i d).ticket ≡ last_ticket k bs
