@@ -15,6 +15,7 @@ use Rattle.stm_events.specs.Delivered.{Delivered}
 use Rattle.stm_events.specs.declared.kept_cause.KeptCause.{KeptCause}
 use Rattle.stm_events.specs.Labels.{is_label}
 use Rattle.stm_event_lines.specs.declared.checkpoint.DeliveredParts.{DeliveredParts}
+use Rattle.stm_event_lines.specs.declared.checkpoint.WaitingBlock.{WaitingBlock}
 use Rattle.stm_event_lines.specs.declared.checkpoint.WaitingLine.{WaitingLine}
 use Rattle.stm_event_lines.specs.Fits.{Is32Bit, FitsValue, FitsVerdict, FitWrites}
 use Rattle.stm_event_lines.specs.Lines.{declaring_format, number_data, value_data, write_data, verdict_data}
@@ -110,6 +111,14 @@ parts_delivered p = record { reads = p.reads.now; verdict = p.verdict.now; stale
 abbrev pub given_data : WaitingLine → Data
 given_data l = waiting_data l.ticket l.text.now (option_copied l.cause) l.label.now (option_map parts_delivered l.delivery)
 
+-- the line of what a writer is given
+abbrev pub given_line : WaitingLine → List ℕ
+given_line l = waiting_line l.ticket l.text.now (option_copied l.cause) l.label.now (option_map parts_delivered l.delivery)
+
+-- the line of a waiting block
+abbrev pub line_of_waiting : WaitingBlock → List ℕ
+line_of_waiting w = waiting_line w.ticket w.block.text w.cause w.label w.delivery
+
 -- all numbers and values of the cause are in range
 abbrev pub FitsCause : Option KeptCause → Type 0
 FitsCause None = ⊤
@@ -128,3 +137,6 @@ FitsWaiting known ticket block cause label delivery =
     × FitsCause cause
     × FitsDelivery delivery
     × IsTrue (is_label label)
+
+abbrev pub FitsWaitingBlock : List Named → WaitingBlock → Type 0
+FitsWaitingBlock known w = FitsWaiting known w.ticket w.block w.cause w.label w.delivery

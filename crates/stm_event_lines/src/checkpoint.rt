@@ -13,7 +13,7 @@ ghost use Rattle.stm_events.specs.Delivered.{Delivered};
 ghost use Rattle.stm_events.specs.declared.kept_cause.KeptCause.{KeptCause as AnyCause};
 ghost use Rattle.stm_events.specs.Labels.{is_label};
 ghost use Rattle.stm_event_lines.specs.CheckpointFields.{checkpoint_header_of as header_meant, count_field, name_of, counted_cell_of, cell_of as cell_meant, cell_parts, bool_field, delivery_in, delivery_of as delivery_meant, label_in as label_in_meant, label_field, cause_in, cause_field, waiting_of as waiting_meant};
-ghost use Rattle.stm_event_lines.specs.CheckpointLines.{IsCheckpointFormat, checkpoint_header_data, checkpoint_header_line, name_data, cell_data, cell_line, label_before, cause_before, delivery_members, members_after_text, parts_delivered, given_data, waiting_line, FitsName, FitsCell, FitsCause, FitsDelivery, FitsWaiting};
+ghost use Rattle.stm_event_lines.specs.CheckpointLines.{IsCheckpointFormat, checkpoint_header_data, checkpoint_header_line, name_data, cell_data, cell_line, label_before, cause_before, delivery_members, members_after_text, parts_delivered, given_data, given_line, line_of_waiting, waiting_line, FitsName, FitsCell, FitsCause, FitsDelivery, FitsWaiting, FitsWaitingBlock};
 ghost use Rattle.stm_event_lines.specs.Fields.{text_field, verdict_field};
 ghost use Rattle.stm_source.specs.CompiledBlock.{block_of_text};
 ghost use Rattle.stm_event_lines.specs.Fits.{Is32Bit, FitsValue, FitsVerdict};
@@ -301,8 +301,7 @@ impl Serialize for WaitingLine<'_> {
 
 /// The line of a waiting block.
 pub fn waiting_line_text(line: &WaitingLine<'_>) -> Result<String, NoMemory>
-    ensures { IfOk result (λ s. string_bytes s ≡ waiting_line line.now.ticket line.now.text.now (option_copied line.now.cause)
-        line.now.label.now (option_map parts_delivered line.now.delivery)) }
+    ensures { IfOk result (λ s. string_bytes s ≡ given_line line.now) }
 {
     match to_string(line.alloc, line) {
         Ok(text) => Ok(text),
@@ -642,8 +641,7 @@ pub(crate) fn waiting_of(
     json: &Json,
 ) -> Result<Option<WaitingBlock>, NoMemory>
     ensures value { IfOk result (λ o. o ≡ waiting_meant known.now (view json.now)) }
-    ensures fits { IfOk result (λ o. IfSome o (λ w.
-        FitsWaiting known.now w.ticket w.block w.cause w.label w.delivery)) }
+    ensures fits { IfOk result (λ o. IfSome o (FitsWaitingBlock known.now)) }
 {
     let Some(ticket) = number_at(json, "ticket") else {
         return Ok(None);
@@ -679,8 +677,7 @@ fn parts_of(delivery: Option<&Delivery>) -> Option<DeliveredParts<'_>>
 
 /// The line of a waiting block that was read.
 pub fn waiting_text(alloc: Global, waiting: &WaitingBlock) -> Result<String, NoMemory>
-    ensures { IfOk result (λ s. string_bytes s
-        ≡ waiting_line waiting.now.ticket waiting.now.block.text waiting.now.cause waiting.now.label waiting.now.delivery) }
+    ensures { IfOk result (λ s. string_bytes s ≡ line_of_waiting waiting.now) }
 {
     waiting_line_text(&WaitingLine {
         alloc,
@@ -694,8 +691,7 @@ pub fn waiting_text(alloc: Global, waiting: &WaitingBlock) -> Result<String, NoM
 
 /// Whether the line is the waiting block's.
 fn is_line_of(alloc: Global, waiting: &WaitingBlock, line: &[u8]) -> Result<bool, NoMemory>
-    ensures { IfOk result (λ r. IsTrue r ↔ (waiting_line waiting.now.ticket waiting.now.block.text waiting.now.cause waiting.now.label
-        waiting.now.delivery ≡ line.now)) }
+    ensures { IfOk result (λ r. IsTrue r ↔ (line_of_waiting waiting.now ≡ line.now)) }
 {
     let text = waiting_text(alloc, waiting)?;
     Ok(text.as_bytes() == line)
@@ -703,9 +699,8 @@ fn is_line_of(alloc: Global, waiting: &WaitingBlock, line: &[u8]) -> Result<bool
 
 /// The waiting block, if the line is its.
 fn if_line(alloc: Global, waiting: WaitingBlock, line: &[u8]) -> Result<WaitingBlock, LineError>
-    ensures ok { IfOk result (λ w. (w ≡ waiting) × (waiting_line w.ticket w.block.text w.cause w.label w.delivery ≡ line.now)) }
-    ensures bad { IsErrOf result LineError.Bad
-        → waiting_line waiting.ticket waiting.block.text waiting.cause waiting.label waiting.delivery ≢ line.now }
+    ensures ok { IfOk result (λ w. (w ≡ waiting) × (line_of_waiting w ≡ line.now)) }
+    ensures bad { IsErrOf result LineError.Bad → line_of_waiting waiting ≢ line.now }
 {
     if is_line_of(alloc, &waiting, line)? {
         Ok(waiting)
@@ -721,8 +716,8 @@ fn waiting_in(
     json: &Json,
     line: &[u8],
 ) -> Result<WaitingBlock, LineError>
-    ensures ok { IfOk result (λ w. waiting_line w.ticket w.block.text w.cause w.label w.delivery ≡ line.now) }
-    ensures fits { IfOk result (λ w. FitsWaiting known.now w.ticket w.block w.cause w.label w.delivery) }
+    ensures ok { IfOk result (λ w. line_of_waiting w ≡ line.now) }
+    ensures fits { IfOk result (FitsWaitingBlock known.now) }
     ensures bad { IsErrOf result LineError.Bad → (ticket : ℕ) (block : Block) (cause : Option AnyCause) (label : List ℕ) (d : Option Delivered)
         → waiting_meant known.now (view json.now)
         ≡ Some (record { ticket = ticket; block = block; cause = cause; label = label; delivery = d })
@@ -736,8 +731,8 @@ fn waiting_in(
 
 /// Reads the line of a waiting block, exactly if it is one whose text is a block over the names.
 pub fn read_waiting(alloc: Global, known: &Names, line: &[u8]) -> Result<WaitingBlock, LineError>
-    ensures ok { IfOk result (λ w. waiting_line w.ticket w.block.text w.cause w.label w.delivery ≡ line.now) }
-    ensures fits { IfOk result (λ w. FitsWaiting known.now w.ticket w.block w.cause w.label w.delivery) }
+    ensures ok { IfOk result (λ w. line_of_waiting w ≡ line.now) }
+    ensures fits { IfOk result (FitsWaitingBlock known.now) }
     ensures bad { IsErrOf result LineError.Bad → (ticket : ℕ) (block : Block) (cause : Option AnyCause) (label : List ℕ) (d : Option Delivered)
         → FitsWaiting known.now ticket block cause label d → waiting_line ticket block.text cause label d ≢ line.now }
 {

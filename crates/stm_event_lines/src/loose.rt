@@ -10,7 +10,7 @@ ghost use Rattle.stm_events.specs.declared.kept_cause.KeptCause.{KeptCause as An
 ghost use Rattle.stm_store.specs.declared.cell.Cell.{Cell as AnyCell};
 ghost use Rattle.stm_terms.specs.Limits.{most_refs};
 ghost use Rattle.stm_event_lines.specs.CheckpointFields.{cell_of as cell_meant, cell_parts, checkpoint_header_in};
-ghost use Rattle.stm_event_lines.specs.CheckpointLines.{IsCheckpointFormat, checkpoint_header_line, cell_line, waiting_line, FitsCell, FitsWaiting};
+ghost use Rattle.stm_event_lines.specs.CheckpointLines.{IsCheckpointFormat, checkpoint_header_line, cell_line, waiting_line, FitsCell, FitsWaiting, FitsWaitingBlock};
 ghost use Rattle.stm_event_lines.specs.Fields.{event_of as event_meant};
 ghost use Rattle.stm_event_lines.specs.Fits.{Is32Bit, FitsNames, FitsValue, FitsVariable};
 ghost use Rattle.stm_event_lines.specs.Lines.{IsFormat, declaring_format, event_line};
@@ -198,8 +198,7 @@ pub fn loose_waiting(
     known: &Names,
     line: &[u8],
 ) -> Result<Option<WaitingBlock>, NoMemory>
-    ensures fits { IfOk result (λ o. IfSome o (λ w.
-        FitsWaiting known.now w.ticket w.block w.cause w.label w.delivery)) }
+    ensures fits { IfOk result (λ o. IfSome o (FitsWaitingBlock known.now)) }
     ensures same { IfOk result (λ o. (ticket : ℕ) (block : Block) (cause : Option AnyCause) (label : List ℕ) (d : Option Delivered)
         → FitsWaiting known.now ticket block cause label d → waiting_line ticket block.text cause label d ≡ line.now
         → o ≡ Some (record { ticket = ticket; block = block; cause = cause; label = label; delivery = d })) }

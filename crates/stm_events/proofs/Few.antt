@@ -3,10 +3,9 @@ use Rattle.std.proofs.Common.{◌≡◌, ℕ, suc, ◌≤◌, Bool, true, false,
 use Rattle.std.specs.Prelude.{nat_eq}
 use Rattle.std.proofs.lemmas.List.{length-map}
 use Rattle.stm_store.specs.declared.cell.Cell.{Cell}
-use Rattle.stm_events.specs.declared.event.Event.{Event}
 use Rattle.stm_events.specs.declared.event.What.{What}
 use Rattle.stm_events.specs.declared.event.What.TheVariants.{Submitted, Installed, Finished, Cancelled, Declared as DeclaredLate, Labelled}
-use Rattle.stm_events.specs.SlowDesk.{Waiter, Slow, waking, without_waiter, delivered, with_delivery, after_writes, after, Allows, state_from, LegalFrom}
+use Rattle.stm_events.specs.SlowDesk.{Waiter, Slow, waking, without_waiter, delivered, with_delivery, after_writes, after, Allows}
 use Rattle.stm_terms.specs.Limits.{max_waiting}
 
 less_by : (b : Bool) (w : Waiter) (ws vs : List Waiter) → length vs ≤ length ws → length (cond b ws (w ∷ vs)) ≤ suc (length ws)

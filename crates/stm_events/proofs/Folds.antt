@@ -1,12 +1,9 @@
 -- A history with one event more, and one after another.
-use Rattle.std.proofs.Common.{◌≡◌, ◌+◌, ◌≤◌, List, [], ◌∷◌, ◌++◌, length, refl, ◌∙◌, arith, length-append}
-use Rattle.stm_store.specs.Tables.{Declared}
+use Rattle.std.proofs.Common.{◌≡◌, ◌+◌, List, [], ◌∷◌, ◌++◌, refl, ◌∙◌}
 use Rattle.stm_events.specs.declared.event.Event.{Event}
 use Rattle.stm_events.specs.declared.event.What.{What}
 use Rattle.stm_events.specs.declared.event.What.TheVariants.{Submitted, Installed, Finished, Cancelled, Declared as DeclaredLate, Labelled}
-use Rattle.stm_events.specs.declared.staleness.StalenessRule.{StalenessRule}
-use Rattle.stm_events.specs.SlowDesk.{Slow, after, AllowsEvent, initial_state, state_from, state_by, LegalFrom, IsLegalBy}
-use Rattle.stm_terms.specs.Limits.{max_events}
+use Rattle.stm_events.specs.SlowDesk.{Slow, after, AllowsEvent, state_from, LegalFrom}
 
 pub state-push : (s : Slow) (es : List Event) (e : Event) → state_from s (es ++ e ∷ []) ≡ after (state_from s es) e.what
 state-push s [] e = refl

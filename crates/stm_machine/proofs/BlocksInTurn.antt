@@ -5,16 +5,16 @@ use Rattle.std.specs.Prelude.{nat_eq}
 use Rattle.std.proofs.lemmas.Bool.Decides.{nat_tests}
 use Rattle.std.proofs.lemmas.List.{at_drop_more}
 use Rattle.std.proofs.lemmas.Bool.{or_from}
-use Rattle.stm_watch.specs.Pairs.{Pairs, pair_cmp, has_pair, is_read, WithReads}
+use Rattle.stm_watch.specs.Pairs.{Pairs, pair_cmp, has_pair}
 use Rattle.stm_queue.specs.Queue.{Entry, has_ticket, with_ticket}
 use Rattle.stm_queue.specs.SortedTickets.{member}
 use Rattle.stm_queue.proofs.Merging.{has_with}
 use Rattle.stm_waiting.specs.declared.waiting.Waiting.{Waiting}
-use Rattle.stm_waiting.specs.Entries.{AllBelow, held_reads}
+use Rattle.stm_waiting.specs.Entries.{AllBelow}
 use Rattle.stm_machine.specs.declared.checkpoint.CheckpointBlock.{CheckpointBlock}
 use Rattle.stm_machine.specs.CheckpointEntries.{TicketsAscend, entry_of, is_due_block, watches_variable, is_ready_block, has_block}
 use Rattle.stm_machine.specs.SettleChoices.{some_out}
-use Rattle.stm_machine.proofs.BlocksByTicket.{below_more, below_push, named_more, named_same, read_more, read_same, out_with, above_with}
+use Rattle.stm_machine.proofs.BlocksByTicket.{below_more, below_push, named_more, named_same, out_with, above_with}
 
 pub drop_at : (bs : List CheckpointBlock) (i : ℕ) (b : CheckpointBlock) → i < length bs → b ≡ get_or bs i b → drop i bs ≡ b ∷ drop (i + 1) bs
 drop_at bs i b l e = at_drop_more (λ (xs : List CheckpointBlock). xs) bs i b l ∙ ap (λ (x : CheckpointBlock). x ∷ drop (i + 1) bs) (sym e)

@@ -1,7 +1,6 @@
 -- When the last delivery to a block is right, by what its block does on the store or on a copy of it.
-use Rattle.std.proofs.Common.{◌≡◌, ◌≢◌, ℕ, suc, zero, ◌<◌, Bool, true, false, List, [], ◌∷◌, ◌++◌, length, Option, Some, None, refl, sym, subst, arith, length-append}
+use Rattle.std.proofs.Common.{◌≡◌, ◌≢◌, ℕ, suc, zero, ◌<◌, Bool, true, List, [], ◌∷◌, ◌++◌, length, Option, Some, None, refl, sym, subst, arith, length-append}
 use Rattle.std.specs.Prelude.{slice_index_or, option_map, Result, Ok, Err, OnOk, IfOk, IsTrue, ◌↔◌}
-use Rattle.stm_terms.specs.declared.values.Value.{Value}
 use Rattle.stm_terms.specs.declared.values.Value.TheVariants as value
 use Rattle.stm_terms.specs.declared.verdicts.Verdict.TheVariants.{Commits}
 use Rattle.stm_terms.specs.Typing.{Rising}
