@@ -27,7 +27,7 @@ invariant_of-self-2 c =
     let e = subst (λ (d : DeskView). submit_refused (state_of d) false c.args.block ≡ None) (sym c.self.view_is) c.requires.allowed in
     let r = room_for 3 c.self.view_is c.requires.room in
     let v = subst (λ (d : DeskView). verdict_on (state_of d).store c.args.block ≡ Some c.args.verdict.now) (sym c.self.view_is) c.requires.verdict in
-    let moves = c.in_ok-applied.ensures.moved s c.args.block c.self.invariant.0.at e (v ∙ ap Some (sym c.in_ok-plan.ensures.verdict)) in
+    let moves = c.in_ok-applied.ensures.done s c.args.block c.self.invariant.0.at e (v ∙ ap Some (sym c.in_ok-plan.ensures.verdict)) in
     let next : c.next_ticket-ticket.result ≡ s.next = c.next_ticket-ticket.ensures.next s c.self.invariant.0.at in
     let left = subst (λ (n : ℕ). AreSameLabels c.remove.new.self (without_label n c.self.inside.labels)) next c.remove.ensures in
     rw (c.push_three.ensures, c.in_ok-events.ensures.submitted, c.in_ok-events.ensures.installed, c.in_ok-events.ensures.finished, c.in_ok-events.ensures.items, next, three_more) (

@@ -18,13 +18,18 @@ submit_current-requires c =
     let e = subst (λ (d : DeskView). submit_refused (state_of d) false c.args.block ≡ None) (sym c.self.view_is) c.requires.allowed in
     let r = room_for 2 c.self.view_is c.requires.room in
     let v = subst (λ (d : DeskView). IsVerdictOf (state_of d) c.args.block c.args.verdict c.args.scratch.now) (sym c.self.view_is) c.requires.verdict in
-    (state_from (start_of c.self.inside.table c.self.inside.checkpoint) c.self.inside.history.items, c.self.invariant.0.at, ticket_left _ _ _ _ _ c.self.invariant.0 (not_full _ _ 2 r (omega arith)), e, v, c.requires.blocks)
+    (state_from (start_of c.self.inside.table c.self.inside.checkpoint) c.self.inside.history.items, c.self.invariant.0.at, record {
+      ticket = ticket_left _ _ _ _ _ c.self.invariant.0 (not_full _ _ 2 r (omega arith));
+      may = e;
+      verdict_of = v;
+      blocks = c.requires.blocks;
+    })
 
 pub invariant_of-self-2 : goal.invariant_of-self-2
 invariant_of-self-2 c =
     let s = state_from (start_of c.self.inside.table c.self.inside.checkpoint) c.self.inside.history.items in
     let r = room_for 2 c.self.view_is c.requires.room in
-    let moves = c.in_ok-submit_current.ensures.moved s c.self.invariant.0.at in
+    let moves = c.in_ok-submit_current.ensures.done s c.self.invariant.0.at in
     rw (c.push_two.ensures, c.in_ok-reserve.ensures.items, c.in_ok-shared.ensures, c.in_ok-installed.ensures, c.next_ticket-ticket.ensures.parts, two_more) (
       kept_moves _ _ _ _ _ c.self.invariant.0 c.args.client (Submitted c.self.inside.machine.next c.args.block ∷ Installed c.self.inside.machine.next c.args.verdict ∷ []) c.submit_current.new.self
           c.requires.client (has_room _ _ 2 r) (c.say_typed.ensures, (tt, tt)) moves.0 moves.1,
