@@ -1,8 +1,6 @@
 mod Closes
 mod Counted
 pub mod Crosses
-pub mod LentCalls
-pub mod Newcomers
 mod OneJob
 mod OnlyTheirs
 mod Owns

@@ -38,7 +38,6 @@ pub enum Next {
 
 impl<L: Ledger> SharedDesk<L> {
     /// `Guarded::submit`, under the lock.
-    #[tactic(auto, using(crate::proofs::LentCalls::own_joined))]
     pub fn submit<R: Wait>(
         &self,
         rt: &R,
@@ -58,7 +57,6 @@ impl<L: Ledger> SharedDesk<L> {
     }
 
     /// `Guarded::declare`, under the lock.
-    #[tactic(auto, using(crate::proofs::LentCalls::own_joined))]
     pub fn declare<R: Wait>(
         &self,
         rt: &R,
@@ -80,7 +78,6 @@ impl<L: Ledger> SharedDesk<L> {
     }
 
     /// `Guarded::finish`, under the lock.
-    #[tactic(auto, using(crate::proofs::LentCalls::own_joined))]
     pub fn finish<R: Wait>(
         &self,
         rt: &R,
@@ -100,7 +97,6 @@ impl<L: Ledger> SharedDesk<L> {
     }
 
     /// `Guarded::cancel`, under the lock.
-    #[tactic(auto, using(crate::proofs::LentCalls::own_joined))]
     pub fn cancel<R: Wait>(
         &self,
         rt: &R,
@@ -119,7 +115,6 @@ impl<L: Ledger> SharedDesk<L> {
     }
 
     /// `Guarded::deliver`, under the lock.
-    #[tactic(auto, using(crate::proofs::LentCalls::own_delivered, crate::proofs::LentCalls::pass_refused, crate::proofs::LentCalls::message_back))]
     pub fn deliver<R: Wait>(
         &self,
         rt: &R,
@@ -164,7 +159,6 @@ impl<L: Ledger> SharedDesk<L> {
 
     /// Waits until a ticket is queued or the desk is stopped, and takes the ticket. `Idle` if
     /// there is none after all.
-    #[tactic(auto, using(crate::proofs::LentCalls::taken_covers))]
     pub fn next_job<R: Wait>(&self, rt: &R) -> Result<Next, NoMemory>
         ensures { IfOk result (λ n. CanBeEvaluated n) }
     {

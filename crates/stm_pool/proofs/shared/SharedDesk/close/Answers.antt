@@ -1,4 +1,5 @@
-use Rattle.std.proofs.Common.{◌≡◌, ℕ, true, length, rules, sym, subst}
+use Rattle.std.proofs.Common.{◌≡◌, ℕ, true, length, rules, arith, sym, subst}
+use Rattle.std.proofs.lemmas.Grind.{common_steps}
 use Rattle.stm_desk.specs.DeskView.{DeskView}
 use Rattle.stm_pool.specs.Own.{are_below, events_in_passes}
 use Rattle.stm_pool.specs.Closing.{MayClose}
@@ -16,9 +17,9 @@ returns-clause-closed g c =
     let may : MayClose history c.self.inside.passes passes = search rules in
     let all : length history ≡ events_in_passes passes = search rules in
     record {
-      events = search rules;
-      counted = search rules;
-      all = search rules;
+      events = first_of (search rules, grind (arith, common_steps));
+      counted = first_of (search rules, grind (arith, common_steps));
+      all = first_of (search rules, grind (arith, common_steps));
       only = subst (λ (n : ℕ). are_below n c.compare.new.self.desk.history ≡ true) c.self.view_is
           (subst (λ (d : DeskView). are_below c.self.inside.passes d.history ≡ true) (sym c.compare.ensures.desk) (only_theirs passes history c.self.inside.passes may all));
     }
