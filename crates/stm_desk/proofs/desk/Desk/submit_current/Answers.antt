@@ -17,13 +17,16 @@ pub submit_current-requires : goal.submit_current-requires
 submit_current-requires c =
     let e = subst (λ (d : DeskView). submit_refused (state_of d) false c.args.block ≡ None) (sym c.self.view_is) c.requires.allowed in
     let r = room_for 2 c.self.view_is c.requires.room in
-    let v = subst (λ (d : DeskView). IsVerdictOf (state_of d) c.args.block c.args.verdict c.args.scratch.now) (sym c.self.view_is) c.requires.verdict in
-    (state_from (start_of c.self.inside.table c.self.inside.checkpoint) c.self.inside.history.items, c.self.invariant.0.at, record {
-      ticket = ticket_left _ _ _ _ _ c.self.invariant.0 (not_full _ _ 2 r (omega arith));
-      may = e;
-      verdict_of = v;
-      blocks = c.requires.blocks;
-    })
+    let v = subst (λ (d : DeskView). IsVerdictOf (state_of d) c.args.block c.args.verdict c.args.scratch.now) (sym c.self.view_is) c.requires.verdict in (
+      state_from (start_of c.self.inside.table c.self.inside.checkpoint) c.self.inside.history.items,
+      c.self.invariant.0.at,
+      record {
+        ticket = ticket_left _ _ _ _ _ c.self.invariant.0 (not_full _ _ 2 r (omega arith));
+        may = e;
+        verdict_of = v;
+        blocks = c.requires.blocks;
+      },
+    )
 
 pub invariant_of-self-2 : goal.invariant_of-self-2
 invariant_of-self-2 c =
