@@ -205,18 +205,6 @@ named_same false true true rest whole e q = cc
 named_same false true false rest whole e q = q
 named_same false false f rest whole e q = q
 
-pub read_more : (h n f r rest whole : Bool) → f ≡ false → (h || ((n && (not f && r)) || rest)) ≡ whole → ((h || (n && r)) || rest) ≡ whole
-read_more true n f r rest whole e q = q
-read_more false true true r rest whole e q = cc
-read_more false true false r rest whole e q = q
-read_more false false f r rest whole e q = q
-
-pub read_same : (h n f r rest whole : Bool) → f ≡ true → (h || ((n && (not f && r)) || rest)) ≡ whole → (h || rest) ≡ whole
-read_same true n f r rest whole e q = q
-read_same false true true r rest whole e q = q
-read_same false true false r rest whole e q = cc
-read_same false false f r rest whole e q = q
-
 out_step : (c : Bool) (t : ℕ) (e : Entry) (es fs : List Entry) → some_out fs ≡ some_out es → some_out (cond c ((t, false) ∷ e ∷ es) (e ∷ fs)) ≡ some_out (e ∷ es)
 out_step true t e es fs h = refl
 out_step false t e es fs h = ap (λ (b : Bool). e.1 || b) h
