@@ -5,8 +5,8 @@ use Rattle.std.specs.Io.KnownBytes.{Appends}
 use Rattle.std.proofs.KnownBytes.{Appends-trans}
 use Rattle.stm_events.specs.declared.event.Event.{Event}
 use Rattle.stm_history_text.specs.declared.writing.WriteFault.{WriteFault}
-use Rattle.stm_history_text.specs.HistoryText.{event_lines, WritesText}
-use Rattle.stm_lines.specs.WrittenFronts.{WritesFront}
+use Rattle.stm_history_text.specs.HistoryText.{event_lines}
+use Rattle.stm_lines.specs.WrittenFronts.{WritesText, WritesFront}
 use Rattle.stm_history_text.proofs.TextInParts.{part_after, part_within}
 use Rattle.stm_commands.specs.Questions.{later_lines}
 

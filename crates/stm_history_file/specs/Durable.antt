@@ -11,7 +11,7 @@ use Rattle.stm_event_lines.specs.Lines.{declaring_format}
 use Rattle.stm_history_text.specs.HistoryText.{event_lines, history_text, start_text}
 use Rattle.stm_history.specs.Judgement.{AreEvents, AreShortLines, FormatFits, StartFits}
 use Rattle.stm_history.specs.Loading.{IsWholeHistory, ReportsLoadFault, loaded_start}
-pub use Rattle.stm_history.specs.Loading.{IsResumable}
+use Rattle.stm_history.specs.Loading.{IsResumable}
 use Rattle.stm_history_text.specs.Starts.{BlocksAreOfText, Start, first_state, format_for, read_back, state_after_start}
 use Rattle.stm_history.specs.declared.loading.Loaded.{Loaded}
 use Rattle.stm_journal.specs.declared.sync_mode.SyncMode.{SyncMode}

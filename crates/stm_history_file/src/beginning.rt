@@ -2,7 +2,8 @@
 
 ghost use Rattle.std.specs.Prelude.{◌≡◌, [], true, false, Some, IsTrue, IfOk, OnOk};
 ghost use Rattle.stm_events.specs.SlowDesk.{Slow};
-ghost use Rattle.stm_history_text.specs.HistoryText.{history_text, WritesText};
+ghost use Rattle.stm_history_text.specs.HistoryText.{history_text};
+ghost use Rattle.stm_lines.specs.WrittenFronts.{WritesText};
 ghost use Rattle.stm_history.specs.Judgement.{AreShortLines};
 ghost use Rattle.stm_journal.specs.Disk.{Shows, HasLength, IsOnDisk};
 ghost use Rattle.stm_journal.specs.NewFile.{written_bytes};

@@ -2,13 +2,13 @@
 
 ghost use Rattle.std.specs.Prelude.{◌≡◌, ◌<◌, ◌+◌, ◌^◌, None, Some, IsTrue, IfOk, IfErr, IfSome, length, take, drop};
 ghost use Rattle.stm_event_lines.specs.Lines.{latest_format};
-ghost use Rattle.stm_history.specs.Loading.{ReportsLoadFault};
+ghost use Rattle.stm_history.specs.Loading.{ReportsLoadFault, IsResumable};
 ghost use Rattle.stm_history_text.specs.Starts.{BlocksAreOfText};
 ghost use Rattle.stm_history.specs.declared.loading.Loaded.{Loaded as AnyLoaded};
 ghost use Rattle.stm_journal.specs.Disk.{Reaches, FailsOnlyByReads};
 ghost use Rattle.stm_journal.specs.Journal.{HasFound};
 ghost use Rattle.stm_journal.specs.Text.{recovered};
-ghost use Rattle.stm_history_file.specs.Durable.{IsResumable, OpensAs, FailsToOpen, LoadsFront, IsFormatFor, ReportsOpenFault, IsForeign, JudgesUnless};
+ghost use Rattle.stm_history_file.specs.Durable.{OpensAs, FailsToOpen, LoadsFront, IsFormatFor, ReportsOpenFault, IsForeign, JudgesUnless};
 
 use crate::recording::{HISTORY_FRONT, HistoryFile};
 use std::alloc::Global;

@@ -1,7 +1,6 @@
 -- The text of a whole history: the first line, a line for each variable, one for each waiting block of a checkpoint, and one for
 -- each event.
 use Rattle.std.specs.Prelude.{ℕ, ◌+◌, List, [], ◌∷◌, ◌++◌, length, Option, Some, None}
-pub use Rattle.stm_lines.specs.WrittenFronts.{WritesText}
 use Rattle.stm_store.specs.declared.cell.Cell.{Cell}
 use Rattle.stm_store.specs.Naming.{Named, name_numbered}
 use Rattle.stm_store.specs.Tables.{Declared}

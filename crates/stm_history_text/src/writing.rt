@@ -5,7 +5,8 @@ ghost use Rattle.std.specs.Option.{option_copied};
 ghost use Rattle.stm_store.specs.Naming.{name_numbered};
 ghost use Rattle.stm_event_lines.specs.CheckpointLines.{cell_line, checkpoint_header_line, parts_delivered};
 ghost use Rattle.stm_event_lines.specs.Lines.{header_line};
-ghost use Rattle.stm_history_text.specs.HistoryText.{block_line, block_lines, cell_lines, checkpoint_text, event_lines, head_text, history_text, start_text, variable_lines, WritesText};
+ghost use Rattle.stm_history_text.specs.HistoryText.{block_line, block_lines, cell_lines, checkpoint_text, event_lines, head_text, history_text, start_text, variable_lines};
+ghost use Rattle.stm_lines.specs.WrittenFronts.{WritesText};
 ghost use Rattle.stm_history_text.specs.Starts.{are_plain_blocks, declares, delivery_of_block, format_for, format_of_start, is_declaration, is_labelling, labels_blocks, written_start};
 
 use std::alloc::Global;

@@ -3,7 +3,7 @@ use Rattle.std.proofs.Common.{◌≡◌, inl, inr, ℕ, ◌∷◌, Result, Ok, E
 use Rattle.std.specs.Io.KnownBytes.{Appends}
 use Rattle.std.proofs.KnownBytes.{Appends-nil}
 use Rattle.stm_terms.specs.Texts.{IsPrefixOf}
-use Rattle.stm_history.specs.Loading.{HasText, loaded_start}
+use Rattle.stm_history.specs.Loading.{HasText, loaded_start, IsResumable}
 use Rattle.stm_history.specs.Judgement.{AreEvents, FitsBefore, IsBefore}
 use Rattle.stm_history_text.specs.Starts.{first_state, format_of_start}
 use Rattle.stm_machine.specs.Checkpoints.{CheckpointView, start_of, started_by}
@@ -11,7 +11,7 @@ use Rattle.stm_history.specs.declared.loading.Loaded.{Loaded}
 use Rattle.stm_journal.specs.declared.sync_mode.SyncMode.{SyncMode}
 use Rattle.stm_journal.specs.Disk.{Disk, LeavesOnly}
 use Rattle.stm_journal.proofs.Moments.{weaker}
-use Rattle.stm_history_file.specs.Durable.{HasLoaded, HistoryKept, IsFormatFor, IsFormatOf, IsResumable, LoadedKept}
+use Rattle.stm_history_file.specs.Durable.{HasLoaded, HistoryKept, IsFormatFor, IsFormatOf, LoadedKept}
 use Rattle.stm_history_file.specs.declared.recording.HistoryFile.{HistoryFile}
 use Rattle.stm_event_lines.specs.Fits.{WhatFitsNames}
 use Rattle.stm_event_lines.specs.Lines.{declaring_format, rule_of}

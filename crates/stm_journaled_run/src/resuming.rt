@@ -2,7 +2,7 @@
 
 ghost use Rattle.std.specs.Prelude.{◌≡◌, ◌≤◌, length, IfOk, IfSome};
 ghost use Rattle.stm_terms.specs.Limits.{max_events};
-ghost use Rattle.stm_history_file.specs.Durable.{IsResumable};
+ghost use Rattle.stm_history.specs.Loading.{IsResumable};
 ghost use Rattle.stm_journaled_run.specs.DurableRun.{resumed_console};
 
 use std::alloc::Global;

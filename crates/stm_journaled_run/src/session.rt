@@ -6,7 +6,7 @@
 ghost use Rattle.std.specs.Prelude.{◌≡◌, ◌≢◌, ◌<◌, ◌++◌, [], true, false, ℕ, List, Some, length, string_bytes, OnOk, OnErr, IfOk, IfErr};
 ghost use Rattle.std.specs.Io.KnownBytes.{Appends};
 ghost use Rattle.stm_terms.specs.Texts.{IsPrefixOf};
-ghost use Rattle.stm_history_text.specs.HistoryText.{WritesText};
+ghost use Rattle.stm_lines.specs.WrittenFronts.{WritesText};
 ghost use Rattle.stm_run.specs.Abstraction.{IsStep};
 ghost use Rattle.stm_run.specs.Console.{step};
 ghost use Rattle.stm_machine.specs.Checkpoints.{MayStart};

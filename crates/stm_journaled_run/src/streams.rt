@@ -1,7 +1,8 @@
 //! From the bytes of a reader to the bytes of a writer, with the events in a file.
 
 ghost use Rattle.std.specs.Prelude.{◌≡◌, ◌≢◌, ◌+◌, ◌<◌, ◌≤◌, [], true, ℕ, Ok, length, string_bytes, OnOk, IfOk, IfErr, IfSome, IsErrOf};
-ghost use Rattle.stm_history_file.specs.Durable.{IsOpened, IsResumable};
+ghost use Rattle.stm_history_file.specs.Durable.{IsOpened};
+ghost use Rattle.stm_history.specs.Loading.{IsResumable};
 ghost use Rattle.stm_lines.specs.TakenLines.{bytes_to_come};
 ghost use Rattle.stm_lines.specs.Unread.{unread};
 ghost use Rattle.stm_options.specs.Options.{AreRunOptions};

@@ -1,7 +1,7 @@
 //! What the console knows, and its answer to a line.
 
 ghost use Rattle.std.specs.Prelude.{◌≡◌, ◌++◌, [], true, false, length, Some, string_bytes, OnOk, OnErr, IfOk, IfSome};
-ghost use Rattle.stm_history_text.specs.HistoryText.{WritesText};
+ghost use Rattle.stm_lines.specs.WrittenFronts.{WritesText};
 ghost use Rattle.stm_commands.specs.Contents.{history_answer};
 ghost use Rattle.stm_commands.specs.OpenDesk.{Steps};
 ghost use Rattle.stm_commands.specs.Questions.{events_answer};

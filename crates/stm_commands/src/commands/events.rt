@@ -1,7 +1,8 @@
 //! `history` and `events`: what happened, and what happened since an event.
 
 ghost use Rattle.std.specs.Prelude.{◌≡◌, ◌++◌, ◌∷◌, [], ◌-◌, drop, codes, decimal};
-ghost use Rattle.stm_history_text.specs.HistoryText.{WritesText, event_lines};
+ghost use Rattle.stm_history_text.specs.HistoryText.{event_lines};
+ghost use Rattle.stm_lines.specs.WrittenFronts.{WritesText};
 ghost use Rattle.stm_commands.specs.Contents.{events_text};
 ghost use Rattle.stm_commands.specs.Questions.{later_lines, later_events_text};
 
