@@ -14,7 +14,6 @@ pub mod KeptAgain
 pub mod KeptAt
 pub mod Labels
 pub mod LastLists
-pub mod Limit
 pub mod Listed
 pub mod ListedReasons
 pub mod MayKeep

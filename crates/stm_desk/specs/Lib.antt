@@ -9,10 +9,9 @@ pub mod Reasons
 pub mod Refusals
 pub mod RunAtOnce
 pub mod Settling
--- The words inside, for what a desk keeps, for its limit, for one step of settling, and for what is found of a reason or a cause.
+-- The words inside, for what a desk keeps, for one step of settling, and for what is found of a reason or a cause.
 pub mod Causes
 pub mod Kept
-pub mod Limit
 pub mod ReasonsByEvents
 pub mod Steps
 pub mod WorkOrders

@@ -111,7 +111,7 @@ impl Desk {
         ensures told { IfErr result (λ e. atomic_refusal self.now block.now ≡ Some e) }
         ensures memory { IfErr result (λ e. e ≢ AtomicError.NoMemory) }
     {
-        match self.machine.may_submit(block) {
+        match self.machine.may_submit(false, block) {
             Ok(()) | Err(SubmitError::HistoryFull | SubmitError::NoMemory) => {
                 if self.lacks_room(2) {
                     Err(AtomicError::HistoryFull)

@@ -5,26 +5,10 @@ ghost use Rattle.stm_terms.specs.UnlessNoMemory.{RefusedAs};
 ghost use Rattle.stm_terms.specs.Limits.{max_clients};
 ghost use Rattle.stm_events.specs.declared.event.What.TheVariants.{Cancelled};
 ghost use Rattle.stm_desk.specs.DeskView.{is_full, with_event};
-ghost use Rattle.stm_desk.specs.Limit.{limited_cancel};
 ghost use Rattle.stm_desk.specs.Refusals.{cancel_refusal};
 
 use crate::desk::Desk;
 use stm_events::{CancelError, Event, What};
-
-/// The desk's answer by the machine's, which knows no limit of events.
-fn limit_cancel(full: bool, answer: Result<(), CancelError>) -> Result<(), CancelError>
-    ensures { result ≡ limited_cancel full answer }
-{
-    if !full {
-        return answer;
-    }
-    match answer {
-        Ok(()) | Err(CancelError::HistoryFull | CancelError::NoMemory) => {
-            Err(CancelError::HistoryFull)
-        }
-        Err(CancelError::NoTicket) => Err(CancelError::NoTicket),
-    }
-}
 
 impl Desk {
     /// Why the block can't be cancelled.
@@ -32,7 +16,8 @@ impl Desk {
         ensures refused { RefusedAs CancelError.NoMemory (cancel_refusal self.now ticket) result }
         ensures room { OnOk result (is_full self.now ≡ false) }
     {
-        limit_cancel(self.is_full(), self.machine.may_cancel(ticket))
+        let full = self.is_full();
+        self.machine.may_cancel(full, ticket)
     }
 
     /// The block waits no more. The caller's number is below 128.

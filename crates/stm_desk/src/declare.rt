@@ -6,7 +6,6 @@ ghost use Rattle.stm_terms.specs.UnlessNoMemory.{RefusedAs};
 ghost use Rattle.stm_terms.specs.Limits.{max_clients};
 ghost use Rattle.stm_events.specs.declared.event.What.TheVariants.{Declared as DeclaredLate};
 ghost use Rattle.stm_desk.specs.DeskView.{state_of, is_full, with_event};
-ghost use Rattle.stm_desk.specs.Limit.{limited_declare};
 ghost use Rattle.stm_desk.specs.Refusals.{late_declare_refusal};
 
 use crate::desk::Desk;
@@ -23,27 +22,14 @@ pub(crate) fn shared_name(alloc: Global, name: &str) -> Result<SharedName, NoMem
     SharedName::new(alloc, String::from_str(alloc, name)?)
 }
 
-/// The desk's answer by the machine's, which knows no limit of events.
-fn limit_declare(full: bool, answer: Result<(), LateDeclareError>) -> Result<(), LateDeclareError>
-    ensures { result ≡ limited_declare full answer }
-{
-    if !full {
-        return answer;
-    }
-    match answer {
-        Err(LateDeclareError::Twice) => Err(LateDeclareError::Twice),
-        Err(LateDeclareError::TypeOfValue) => Err(LateDeclareError::TypeOfValue),
-        _ => Err(LateDeclareError::HistoryFull),
-    }
-}
-
 impl Desk {
     /// Why a variable can't be declared. The caller knows that the name is one.
     fn may_declare(&self, name: &str, kind: Ty, value: Value) -> Result<(), LateDeclareError>
         ensures refused { RefusedAs LateDeclareError.NoMemory (late_declare_refusal self.now name.now kind value) result }
         ensures room { OnOk result (is_full self.now ≡ false) }
     {
-        limit_declare(self.is_full(), self.machine.may_declare(name, kind, value))
+        let full = self.is_full();
+        self.machine.may_declare(full, name, kind, value)
     }
 
     /// The variable is declared: it is the next one of the store, and has the number that is returned. The caller's number is below 128,

@@ -7,31 +7,12 @@ ghost use Rattle.stm_events.specs.Refusals.{without_message};
 ghost use Rattle.stm_events.specs.States.{IsTicketOf};
 ghost use Rattle.stm_machine.specs.Machine.{MayDeliver, installation_of};
 ghost use Rattle.stm_desk.specs.DeskView.{state_of, is_full, with_event};
-ghost use Rattle.stm_desk.specs.Limit.{limited_delivery};
 ghost use Rattle.stm_desk.specs.Refusals.{RefusesDelivery, requeued_if_overtaken};
 
 use crate::desk::Desk;
 use stm_eval::Evaluated;
 use stm_events::{DeliverError, Event, What};
 use stm_terms::NoMemory;
-
-/// The desk's answer by the machine's, which knows no limit of events.
-fn limit_delivery(full: bool, answer: Result<(), DeliverError>) -> Result<(), DeliverError>
-    ensures { result ≡ limited_delivery full answer }
-{
-    if !full {
-        return answer;
-    }
-    match answer {
-        Ok(()) | Err(DeliverError::HistoryFull | DeliverError::NoMemory) => {
-            Err(DeliverError::HistoryFull)
-        }
-        Err(DeliverError::Gone) => Err(DeliverError::Gone),
-        Err(DeliverError::OtherBlock) => Err(DeliverError::OtherBlock),
-        Err(DeliverError::Already) => Err(DeliverError::Already),
-        Err(DeliverError::Overtaken(number)) => Err(DeliverError::Overtaken(number)),
-    }
-}
 
 impl Desk {
     /// Why the message can't be delivered.
@@ -40,7 +21,8 @@ impl Desk {
         ensures allowed { OnOk result (MayDeliver (state_of self.now) message.now) }
         ensures room { OnOk result (is_full self.now ≡ false) }
     {
-        limit_delivery(self.is_full(), self.machine.may_deliver(message))
+        let full = self.is_full();
+        self.machine.may_deliver(full, message)
     }
 
     /// Why a message of one of the desk's own jobs can't be delivered.
@@ -50,7 +32,8 @@ impl Desk {
         ensures allowed { OnOk result (MayDeliver (state_of self.now) message.now) }
         ensures room { OnOk result (is_full self.now ≡ false) }
     {
-        limit_delivery(self.is_full(), self.machine.may_deliver_own(message))
+        let full = self.is_full();
+        self.machine.may_deliver_own(full, message)
     }
 
     /// Delivers a message that nothing refuses. An out-of-memory error hands the message back.

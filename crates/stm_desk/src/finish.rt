@@ -12,7 +12,6 @@ ghost use Rattle.stm_machine.specs.Plans.{IsPlan};
 ghost use Rattle.stm_machine.specs.QueueAndIndex.{with_tickets};
 ghost use Rattle.stm_desk.specs.DeskView.{state_of, is_full, with_event};
 ghost use Rattle.stm_desk.specs.Events.{finish_of};
-ghost use Rattle.stm_desk.specs.Limit.{limited_plan};
 ghost use Rattle.stm_desk.specs.Refusals.{finish_refusal};
 
 use crate::desk::Desk;
@@ -28,24 +27,6 @@ pub struct Finish {
     pub verdict: SharedVerdict,
     pub applied: Applied,
     pub stale: Tickets,
-}
-
-/// The desk's answer by the machine's, which knows no limit of events. A full history comes before a full store.
-fn limit_plan(full: bool, answer: Result<Plan, FinishError>) -> Result<Plan, FinishError>
-    ensures { result ≡ limited_plan full answer }
-{
-    if !full {
-        return answer;
-    }
-    match answer {
-        Ok(_) | Err(FinishError::HistoryFull | FinishError::CellsFull | FinishError::NoMemory) => {
-            Err(FinishError::HistoryFull)
-        }
-        Err(FinishError::NoTicket) => Err(FinishError::NoTicket),
-        Err(FinishError::NotEvaluated) => Err(FinishError::NotEvaluated),
-        Err(FinishError::Stale) => Err(FinishError::Stale),
-        Err(FinishError::Blocks) => Err(FinishError::Blocks),
-    }
 }
 
 /// The event of a finish by its plan, and room for it in a list of events.
@@ -127,7 +108,8 @@ impl Desk {
             IsPlan (state_of self.now) ticket p.verdict p.first_new p.stale) }
         ensures room { OnOk result (is_full self.now ≡ false) }
     {
-        limit_plan(self.is_full(), self.machine.plan(ticket))
+        let full = self.is_full();
+        self.machine.plan(full, ticket)
     }
 
     /// The finish by its plan: its event joins the history. The result is what applying the verdict did. All memory is taken

@@ -6,7 +6,6 @@ ghost use Rattle.stm_events.specs.Labels.{is_label, label_of};
 ghost use Rattle.stm_terms.specs.Limits.{max_clients};
 ghost use Rattle.stm_events.specs.declared.event.What.TheVariants.{Labelled};
 ghost use Rattle.stm_desk.specs.DeskView.{labels_of, is_full, with_event};
-ghost use Rattle.stm_desk.specs.Limit.{limited_label};
 ghost use Rattle.stm_desk.specs.Refusals.{label_refusal};
 
 use crate::declare::shared_name;
@@ -14,28 +13,14 @@ use crate::desk::Desk;
 use stm_events::{Event, LabelError, What};
 use stm_terms::NoMemory;
 
-/// The desk's answer by the machine's, which knows no limit of events.
-fn limit_label(full: bool, answer: Result<(), LabelError>) -> Result<(), LabelError>
-    ensures { result ≡ limited_label full answer }
-{
-    if !full {
-        return answer;
-    }
-    match answer {
-        Ok(()) | Err(LabelError::HistoryFull | LabelError::NoMemory) => {
-            Err(LabelError::HistoryFull)
-        }
-        Err(LabelError::NoTicket) => Err(LabelError::NoTicket),
-    }
-}
-
 impl Desk {
     /// Why the block can't get a label. The caller knows that the text is one.
     fn may_label(&self, ticket: u32) -> Result<(), LabelError>
         ensures refused { RefusedAs LabelError.NoMemory (label_refusal self.now ticket) result }
         ensures room { OnOk result (is_full self.now ≡ false) }
     {
-        limit_label(self.is_full(), self.machine.may_label(ticket))
+        let full = self.is_full();
+        self.machine.may_label(full, ticket)
     }
 
     /// The block gets a label, in place of the one that it had; an empty one takes it away. The caller's number is below 128, and it

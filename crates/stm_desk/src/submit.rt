@@ -6,7 +6,6 @@ ghost use Rattle.stm_terms.specs.Limits.{max_clients};
 ghost use Rattle.stm_events.specs.declared.event.What.TheVariants.{Submitted};
 ghost use Rattle.stm_events.specs.Laws.{IsWellTyped};
 ghost use Rattle.stm_desk.specs.DeskView.{state_of, is_full, with_event};
-ghost use Rattle.stm_desk.specs.Limit.{limited_submit};
 ghost use Rattle.stm_desk.specs.Refusals.{submit_refusal};
 
 use crate::desk::Desk;
@@ -20,29 +19,14 @@ pub(crate) fn say_typed(block: &SharedBlock)
     let _action = block.block().action();
 }
 
-/// The desk's answer by the machine's, which knows no limit of events.
-fn limit_submit(full: bool, answer: Result<(), SubmitError>) -> Result<(), SubmitError>
-    ensures { result ≡ limited_submit full answer }
-{
-    if !full {
-        return answer;
-    }
-    match answer {
-        Ok(()) | Err(SubmitError::HistoryFull | SubmitError::NoMemory) => {
-            Err(SubmitError::HistoryFull)
-        }
-        Err(SubmitError::Foreign(number)) => Err(SubmitError::Foreign(number)),
-        Err(SubmitError::WaitingFull) => Err(SubmitError::WaitingFull),
-    }
-}
-
 impl Desk {
     /// Why the block can't be submitted.
     fn may_submit(&self, block: &SharedBlock) -> Result<(), SubmitError>
         ensures refused { RefusedAs SubmitError.NoMemory (submit_refusal self.now block.now) result }
         ensures room { OnOk result (is_full self.now ≡ false) }
     {
-        limit_submit(self.is_full(), self.machine.may_submit(block))
+        let full = self.is_full();
+        self.machine.may_submit(full, block)
     }
 
     /// The block waits from now on, under the ticket that is returned, and is queued. The caller's number is below 128.

@@ -1,37 +1,26 @@
 -- What is due on a state is what is due after the history that leads to it; and what the calls say is what is due.
-use Rattle.std.proofs.Common.{◌≡◌, ◌≢◌, ℕ, ◌<◌, Bool, true, false, not, cond, List, Option, Some, None, refl, sym, ap, subst, ◌∙◌, arith, length}
-use Rattle.std.specs.Prelude.{IfOk, IsSomeAnd, if◌then◌else◌, is_some, nat_le, nat_lt, option_map, IsTrue, Result, Ok, Err}
+use Rattle.std.proofs.Common.{◌≡◌, ◌≢◌, ℕ, ◌<◌, Bool, true, false, List, Option, Some, None, refl, sym, ap, subst, ◌∙◌, arith, length}
+use Rattle.std.specs.Prelude.{IfOk, IsSomeAnd, if◌then◌else◌, nat_le, option_map, IsTrue, Result, Ok, Err}
 use Rattle.std.proofs.lemmas.Bool.Decides.{nat_tests}
 use Rattle.stm_events.specs.Labels.{is_label}
-use Rattle.stm_events.specs.declared.errors.LabelError.{LabelError}
-use Rattle.stm_events.specs.declared.errors.LabelError.TheVariants as label
 use Rattle.stm_terms.specs.declared.kinds.Ty.{Ty}
 use Rattle.stm_terms.specs.declared.values.Value.{Value}
 use Rattle.stm_terms.specs.declared.verdicts.Verdict.{Verdict}
 use Rattle.stm_terms.specs.Names.{is_name_text}
 use Rattle.stm_terms.specs.UnlessNoMemory.{RefusedAs}
-use Rattle.stm_store.specs.declared.cell.Cell.{Cell}
-use Rattle.stm_store.specs.Naming.{may_hold_known, number_named}
 use Rattle.stm_check.specs.TypedBlock.{Block}
 use Rattle.stm_eval.specs.declared.message.Evaluated.{Evaluated}
 use Rattle.stm_eval.specs.EvaluatedFields.{message_ticket, message_block, message_reads}
-use Rattle.stm_events.specs.declared.errors.CancelError.{CancelError}
-use Rattle.stm_events.specs.declared.errors.CancelError.TheVariants as cancel
 use Rattle.stm_events.specs.declared.errors.DeliverError.{DeliverError}
 use Rattle.stm_events.specs.declared.errors.DeliverError.TheVariants as deliver
-use Rattle.stm_events.specs.declared.errors.FinishError.{FinishError}
-use Rattle.stm_events.specs.declared.errors.FinishError.TheVariants as finish
-use Rattle.stm_events.specs.declared.errors.LateDeclareError.TheVariants as declare
-use Rattle.stm_events.specs.declared.errors.SubmitError.{SubmitError}
-use Rattle.stm_events.specs.declared.errors.SubmitError.TheVariants as submit
 use Rattle.stm_events.specs.declared.event.Event.{Event}
 use Rattle.stm_events.specs.declared.event.What.TheVariants.{Submitted, Installed, Cancelled, Declared as DeclaredLate, Labelled}
-use Rattle.stm_events.specs.Refusals.{declare_first, late_declare_refused, missing, submit_first, submit_refused, cancel_first, cancel_refused, label_first, label_refused, finish_first, finish_refused, differing, overtaken_first, install_first, DeliveryRefusedAt, DeliveryRefusedAs, blocks_there, overflows}
-use Rattle.stm_events.specs.SlowDesk.{Waiter, Slow, Allows, under, verdict_on, is_new, is_current, find_waiter, max_cells}
-use Rattle.stm_terms.specs.Limits.{max_clients, max_events, max_waiting}
+use Rattle.stm_events.specs.Refusals.{late_declare_refused, cancel_first, cancel_refused, label_first, label_refused, differing, overtaken_first, install_first, DeliveryRefusedAt, DeliveryRefusedAs}
+use Rattle.stm_events.specs.SlowDesk.{Waiter, Slow, Allows, under, is_current, find_waiter}
+use Rattle.stm_terms.specs.Limits.{max_clients, max_events}
 use Rattle.stm_events.specs.States.{IsLegalFrom}
 use Rattle.stm_machine.specs.JobsHandedOut.{IsPresent, block_at}
-use Rattle.stm_machine.specs.Machine.{IsAt, MayDeliver}
+use Rattle.stm_machine.specs.Machine.{IsAt}
 use Rattle.stm_machine.proofs.Declaring.{may_declare}
 use Rattle.stm_history.specs.declared.explanation.CallRefusal.{CallRefusal}
 use Rattle.stm_history.specs.declared.expecting.Expectation.{Expectation}
@@ -62,158 +51,46 @@ pub expect_due : {E : Type 0} (r : Result Expectation E) (s : Replayer) (full : 
 expect_due (Ok x) s full e low f h = λ S H g. due_after S H e full x g.legal low (f ∙ ap (nat_le max_events) g.counted) (h (state_after_start S H) g.at)
 expect_due (Err x) s full e low f h = tt
 
--- ---- refusals, if the history may be full: what is refused otherwise is refused for the same reason
-submit_some : (m : Option ℕ) (many full : Bool) (e : SubmitError) → submit_first m many false ≡ Some e → submit_first m many full ≡ Some e
-submit_some (Some i) many full e h = h
-submit_some None true full e h = h
-submit_some None false full e h = cc
-
-submit_none : (m : Option ℕ) (many : Bool) → submit_first m many false ≡ None → submit_first m many true ≡ Some submit.HistoryFull
-submit_none (Some i) many h = cc
-submit_none None true h = cc
-submit_none None false h = refl
-
-pub submit_when_full : (s : Slow) (b : Block) → submit_refused s false b ≡ None → submit_refused s true b ≡ Some submit.HistoryFull
-submit_when_full s b h = submit_none (missing _ b.uses) (nat_le max_waiting (length s.waiters)) h
-
-pub submit_always : (s : Slow) (full : Bool) (b : Block) (e : SubmitError) → submit_refused s false b ≡ Some e → submit_refused s full b ≡ Some e
-submit_always s full b e h = submit_some (missing _ b.uses) (nat_le max_waiting (length s.waiters)) full e h
-
-cancel_some : (o : Option Waiter) (full : Bool) (e : CancelError) → cancel_first o false ≡ Some e → cancel_first o full ≡ Some e
-cancel_some None full e h = h
-cancel_some (Some w) full e h = cc
-
-cancel_none : (o : Option Waiter) → cancel_first o false ≡ None → cancel_first o true ≡ Some cancel.HistoryFull
-cancel_none None h = cc
-cancel_none (Some w) h = refl
-
+-- ---- what isn't refused is allowed
 waits_by : (o : Option Waiter) → cancel_first o false ≡ None → IsSomeAnd o (λ w. Unit {0})
 waits_by None h = cc
 waits_by (Some w) h = tt
-
-pub cancel_when_full : (s : Slow) (t : ℕ) → cancel_refused s false t ≡ None → cancel_refused s true t ≡ Some cancel.HistoryFull
-cancel_when_full s t h = cancel_none (find_waiter t s.waiters) h
-
-pub cancel_always : (s : Slow) (full : Bool) (t : ℕ) (e : CancelError) → cancel_refused s false t ≡ Some e → cancel_refused s full t ≡ Some e
-cancel_always s full t e h = cancel_some (find_waiter t s.waiters) full e h
 
 pub cancel_allowed : (s : Slow) (t : ℕ) → cancel_refused s false t ≡ None → Allows s (Cancelled t)
 cancel_allowed s t h = waits_by (find_waiter t s.waiters) h
 
 -- a label
-label_none : (o : Option Waiter) → label_first o false ≡ None → label_first o true ≡ Some label.HistoryFull
-label_none None h = cc
-label_none (Some w) h = refl
-
-label_some : (o : Option Waiter) (full : Bool) (e : LabelError) → label_first o false ≡ Some e → label_first o full ≡ Some e
-label_some None full e h = h
-label_some (Some w) full e h = cc
-
 label_waits : (text : List ℕ) (o : Option Waiter) → label_first o false ≡ None → is_label text ≡ true → IsSomeAnd o (λ w. is_label text ≡ true)
 label_waits text None h e = cc
 label_waits text (Some w) h e = e
-
-pub label_when_full : (s : Slow) (t : ℕ) → label_refused s false t ≡ None → label_refused s true t ≡ Some label.HistoryFull
-label_when_full s t h = label_none (find_waiter t s.waiters) h
-
-pub label_always : (s : Slow) (full : Bool) (t : ℕ) (e : LabelError) → label_refused s false t ≡ Some e → label_refused s full t ≡ Some e
-label_always s full t e h = label_some (find_waiter t s.waiters) full e h
 
 pub label_due : (s : Slow) (full : Bool) (t : ℕ) (text given : List ℕ) → full ≡ false → given ≡ text → is_label text ≡ true → label_refused s false t ≡ None
     → IsDueOn s full (Labelled t text) (Due (Labelled t given))
 label_due s full t text given f g e h =
     (f, (refl, sym g), subst (λ (x : List ℕ). Allows s (Labelled t x)) (sym g) (label_waits text (find_waiter t s.waiters) h e))
 
--- a declaration
-declare_full_by : (taken holds room : Bool) → declare_first taken holds false room ≡ None → declare_first taken holds true room ≡ Some declare.HistoryFull
-declare_full_by true holds room h = cc
-declare_full_by false false room h = cc
-declare_full_by false true false h = cc
-declare_full_by false true true h = refl
-
-declare_cells_by : (full taken holds room : Bool) → declare_first taken holds false room ≡ Some declare.CellsFull → declare_first taken holds full room ≡ Some (cond full declare.HistoryFull declare.CellsFull)
-declare_cells_by full true holds room h = cc
-declare_cells_by full false false room h = cc
-declare_cells_by true false true false h = refl
-declare_cells_by false false true false h = refl
-declare_cells_by full false true true h = cc
-
-pub declare_when_full : (s : Slow) (name : List ℕ) (kind : Ty) (value : Value) → late_declare_refused s false name kind value ≡ None → late_declare_refused s true name kind value ≡ Some declare.HistoryFull
-declare_when_full s name kind value h = declare_full_by (is_some (number_named name s.names)) (may_hold_known s.names kind value) (nat_lt (length s.store) max_cells) h
-
--- a full history comes before a full store
-pub declare_cells_when_full : (s : Slow) (full : Bool) (name : List ℕ) (kind : Ty) (value : Value) → late_declare_refused s false name kind value ≡ Some declare.CellsFull
-    → late_declare_refused s full name kind value ≡ Some (cond full declare.HistoryFull declare.CellsFull)
-declare_cells_when_full s full name kind value h = declare_cells_by full (is_some (number_named name s.names)) (may_hold_known s.names kind value) (nat_lt (length s.store) max_cells) h
-
--- the reasons of a finish of a block that waits, each with what it rests on
-abbrev finish_at : (full new stale blocks over : Bool) → Option FinishError
-finish_at full new stale blocks over =
-    if new then Some finish.NotEvaluated
-    else if stale then Some finish.Stale
-    else if blocks then Some finish.Blocks
-    else if full then Some finish.HistoryFull
-    else if over then Some finish.CellsFull else None
-
-finish_none_by : (new stale blocks over : Bool) → finish_at false new stale blocks over ≡ None → finish_at true new stale blocks over ≡ Some finish.HistoryFull
-finish_none_by true stale blocks over h = cc
-finish_none_by false true blocks over h = cc
-finish_none_by false false true over h = cc
-finish_none_by false false false true h = cc
-finish_none_by false false false false h = refl
-
-finish_cells_by : (full new stale blocks over : Bool) → finish_at false new stale blocks over ≡ Some finish.CellsFull → finish_at full new stale blocks over ≡ Some (cond full finish.HistoryFull finish.CellsFull)
-finish_cells_by full true stale blocks over h = cc
-finish_cells_by full false true blocks over h = cc
-finish_cells_by full false false true over h = cc
-finish_cells_by true false false false true h = refl
-finish_cells_by false false false false true h = refl
-finish_cells_by full false false false false h = cc
-
-finish_none : (store : List Cell) (o : Option Waiter) → finish_first store false o ≡ None → finish_first store true o ≡ Some finish.HistoryFull
-finish_none store None h = cc
-finish_none store (Some w) h = finish_none_by (is_new w) (not (is_current w)) (blocks_there (verdict_on store w.block)) (overflows store (verdict_on store w.block)) h
-
-finish_cells : (store : List Cell) (full : Bool) (o : Option Waiter) → finish_first store false o ≡ Some finish.CellsFull → finish_first store full o ≡ Some (cond full finish.HistoryFull finish.CellsFull)
-finish_cells store full None h = cc
-finish_cells store full (Some w) h = finish_cells_by full (is_new w) (not (is_current w)) (blocks_there (verdict_on store w.block)) (overflows store (verdict_on store w.block)) h
-
-pub finish_when_full : (s : Slow) (t : ℕ) → finish_refused s false t ≡ None → finish_refused s true t ≡ Some finish.HistoryFull
-finish_when_full s t h = finish_none s.store (find_waiter t s.waiters) h
-
--- a full history comes before a full store
-pub cells_when_full : (s : Slow) (full : Bool) (t : ℕ) → finish_refused s false t ≡ Some finish.CellsFull → finish_refused s full t ≡ Some (cond full finish.HistoryFull finish.CellsFull)
-cells_when_full s full t h = finish_cells s.store full (find_waiter t s.waiters) h
-
 -- ---- a delivery of what the block does on the present store
 -- it is refused only because its block is current
-deliver_some_by : (A : Type 0) (s : Slow) (full : Bool) (w : Waiter) (reads : List (ℕ × Value)) (e : DeliverError) → differing (under s.store) reads ≡ None → RefusedAs {A = A} deliver.NoMemory (install_first s.store false w reads) (Err e) → e ≢ deliver.NoMemory
+deliver_some_by : (A : Type 0) (s : Slow) (full : Bool) (w : Waiter) (reads : List (ℕ × Value)) (e : DeliverError) → differing (under s.store) reads ≡ None → RefusedAs {A = A} deliver.NoMemory (install_first s.store full w reads) (Err e) → e ≢ deliver.NoMemory
     → deliver_first full (Some w) ≡ Some e
-deliver_some_by A s full w reads e d r n = from (is_current w) (subst (λ (o : Option ℕ). RefusedAs {A = A} deliver.NoMemory (if is_current w then Some deliver.Already else overtaken_first o false) (Err e)) d r) where
-  from : (b : Bool) → RefusedAs {A = A} deliver.NoMemory (if b then Some deliver.Already else None) (Err e) → (if b then Some deliver.Already else if full then Some deliver.HistoryFull else None) ≡ Some e
-  from true k = cc
-  from false k = absurd (n k)
+deliver_some_by A s full w reads e d r n = from (is_current w) full (subst (λ (o : Option ℕ). RefusedAs {A = A} deliver.NoMemory (if is_current w then Some deliver.Already else overtaken_first o full) (Err e)) d r) where
+  from : (b f : Bool) → RefusedAs {A = A} deliver.NoMemory (if b then Some deliver.Already else if f then Some deliver.HistoryFull else None) (Err e)
+      → (if b then Some deliver.Already else if f then Some deliver.HistoryFull else None) ≡ Some e
+  from true f k = cc
+  from false true k = cc
+  from false false k = absurd (n k)
 
 deliver_at : (A : Type 0) (s : Slow) (full : Bool) (one : Waiter) (o : Option Waiter) (m : Evaluated) (e : DeliverError) → o ≡ Some one → message_block m ≡ one.block → differing (under s.store) (message_reads m) ≡ None
-    → DeliveryRefusedAt {A = A} s.store false o (message_block m) (message_reads m) (Err e) → e ≢ deliver.NoMemory → deliver_first full o ≡ Some e
+    → DeliveryRefusedAt {A = A} s.store full o (message_block m) (message_reads m) (Err e) → e ≢ deliver.NoMemory → deliver_first full o ≡ Some e
 deliver_at A s full one None m e f b d r n = cc
 deliver_at A s full one (Some w) m e f b d r n =
     let q : w ≡ one = cc in
     let trees : w.block.tree ≡ (message_block m).tree = ap (λ (y : Waiter). y.block.tree) q ∙ ap (λ (y : Block). y.tree) (sym b) in
     deliver_some_by A s full w (message_reads m) e d (r.1 trees) n
 
-pub deliver_always : (A : Type 0) (s : Slow) (full : Bool) (m : Evaluated) (e : DeliverError) → IsPresent s (message_ticket m) m → DeliveryRefusedAs {A = A} s false (message_ticket m) (message_block m) (message_reads m) (Err e) → e ≢ deliver.NoMemory
+pub deliver_always : (A : Type 0) (s : Slow) (full : Bool) (m : Evaluated) (e : DeliverError) → IsPresent s (message_ticket m) m → DeliveryRefusedAs {A = A} s full (message_ticket m) (message_block m) (message_reads m) (Err e) → e ≢ deliver.NoMemory
     → deliver_refused s full (message_ticket m) ≡ Some e
 deliver_always A s full m e p r n = deliver_at A s full p.one (find_waiter (message_ticket m) s.waiters) m e p.found p.block p.differs r n
-
-current_by : (store : List Cell) (w : Waiter) (reads : List (ℕ × Value)) → install_first store false w reads ≡ None → deliver_first true (Some w) ≡ Some deliver.HistoryFull
-current_by store w reads h = from (is_current w) (differing (under store) reads) h where
-  from : (b : Bool) (d : Option ℕ) → (if b then Some deliver.Already else overtaken_first d false) ≡ None → (if b then Some deliver.Already else Some deliver.HistoryFull) ≡ Some deliver.HistoryFull
-  from true d k = cc
-  from false d k = refl
-
-pub deliver_when_full : (s : Slow) (m : Evaluated) → MayDeliver s m → deliver_refused s true (message_ticket m) ≡ Some deliver.HistoryFull
-deliver_when_full s m d = ap (deliver_first true) d.found ∙ current_by s.store d.one (message_reads m) d.allowed
 
 pub none_gone : (s : Slow) (full : Bool) (t : ℕ) → block_at s t ≡ None → deliver_refused s full t ≡ Some deliver.Gone
 none_gone s full t e = from (find_waiter t s.waiters) e where

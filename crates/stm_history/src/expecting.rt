@@ -1,17 +1,15 @@
 //! What is due in place of an event: the machine is asked whether it refuses the call, and then for the fields that the call has
 //! to have.
 
-ghost use Rattle.std.specs.Prelude.{◌≡◌, ◌≢◌, ◌<◌, false, ℕ, List, IfOk, IsTrue, None, Some};
+ghost use Rattle.std.specs.Prelude.{◌≡◌, ◌≢◌, ◌<◌, false, ℕ, List, IfOk, IsTrue, None};
 ghost use Rattle.stm_eval.specs.EvaluatedFields.{message_ticket};
 ghost use Rattle.stm_events.specs.declared.event.Event.{Event as AnyEvent};
 ghost use Rattle.stm_events.specs.declared.event.What.TheVariants.{Submitted, Installed, Finished, Cancelled, Declared as DeclaredLate, Labelled};
-ghost use Rattle.stm_events.specs.Refusals.{submit_refused, finish_refused, late_declare_refused};
+ghost use Rattle.stm_events.specs.Refusals.{submit_refused};
 ghost use Rattle.stm_events.specs.Labels.{is_label};
 ghost use Rattle.stm_events.specs.SlowDesk.{Slow};
 ghost use Rattle.stm_terms.specs.Limits.{max_clients};
 ghost use Rattle.stm_terms.specs.Names.{is_name_text};
-ghost use Rattle.stm_terms.specs.declared.kinds.Ty.{Ty as AnyTy};
-ghost use Rattle.stm_terms.specs.declared.values.Value.{Value as OneValue};
 ghost use Rattle.stm_terms.specs.declared.verdicts.Verdict.{Verdict};
 ghost use Rattle.stm_machine.specs.JobsHandedOut.{IsPresent};
 ghost use Rattle.stm_machine.specs.Machine.{IsAt, HasTicketLeft, MayDeliver};
@@ -140,14 +138,8 @@ fn submission(
     ensures { IfOk result (λ x. (s : Slow) (t : ℕ) → IsAt machine.old s
         → IsDueOn s full (Submitted t block.now) x) }
 {
-    match machine.may_submit(block) {
-        Ok(()) => {
-            if full {
-                refused_submission(SubmitError::HistoryFull)
-            } else {
-                submit_next(machine, block)
-            }
-        }
+    match machine.may_submit(full, block) {
+        Ok(()) => submit_next(machine, block),
         Err(error) => refused_submission(error),
     }
 }
@@ -157,14 +149,8 @@ fn cancellation(machine: &Machine, full: bool, ticket: u32) -> Result<Expectatio
     ensures { IfOk result (λ x. (s : Slow) → IsAt machine.now s
         → IsDueOn s full (Cancelled ticket) x) }
 {
-    match machine.may_cancel(ticket) {
-        Ok(()) => {
-            if full {
-                refused_cancellation(CancelError::HistoryFull)
-            } else {
-                Ok(Expectation::Due(What::Cancelled { ticket }))
-            }
-        }
+    match machine.may_cancel(full, ticket) {
+        Ok(()) => Ok(Expectation::Due(What::Cancelled { ticket })),
         Err(error) => refused_cancellation(error),
     }
 }
@@ -186,57 +172,14 @@ fn finish_of(ticket: u32, plan: Plan) -> What
     }
 }
 
-/// The error of a finish if the history may be full: a desk reports a full history before a full store.
-fn finish_error(full: bool, error: FinishError) -> FinishError
-    ensures refused { (s : Slow) (t : ℕ) → finish_refused s false t ≡ Some error
-        → finish_refused s full t ≡ Some result }
-    ensures memory { error ≡ FinishError.NoMemory → result ≡ error }
-{
-    match error {
-        FinishError::CellsFull => {
-            if full {
-                FinishError::HistoryFull
-            } else {
-                error
-            }
-        }
-        _ => error,
-    }
-}
-
 /// What is due in place of a finish of the ticket.
 fn finish(machine: &Machine, full: bool, ticket: u32) -> Result<Expectation, NoMemory>
     ensures { IfOk result (λ x. (s : Slow) (v : Verdict) (n : ℕ) (stale : List ℕ)
         → IsAt machine.now s → IsDueOn s full (Finished ticket v n stale) x) }
 {
-    match machine.plan(ticket) {
-        Ok(plan) => {
-            if full {
-                refused_finish(FinishError::HistoryFull)
-            } else {
-                Ok(Expectation::Due(finish_of(ticket, plan)))
-            }
-        }
-        Err(error) => refused_finish(finish_error(full, error)),
-    }
-}
-
-/// The error of a declaration if the history may be full: a desk reports a full history before a full store.
-fn declare_error(full: bool, error: LateDeclareError) -> LateDeclareError
-    ensures refused { (s : Slow) (name : List ℕ) (kind : AnyTy) (value : OneValue)
-        → late_declare_refused s false name kind value ≡ Some error
-        → late_declare_refused s full name kind value ≡ Some result }
-    ensures memory { error ≡ LateDeclareError.NoMemory → result ≡ error }
-{
-    match error {
-        LateDeclareError::CellsFull => {
-            if full {
-                LateDeclareError::HistoryFull
-            } else {
-                error
-            }
-        }
-        _ => error,
+    match machine.plan(full, ticket) {
+        Ok(plan) => Ok(Expectation::Due(finish_of(ticket, plan))),
+        Err(error) => refused_finish(error),
     }
 }
 
@@ -252,16 +195,12 @@ fn declaration(
     ensures { IfOk result (λ x. (s : Slow) → IsAt machine.now s
         → IsDueOn s full (DeclaredLate name.now kind value) x) }
 {
-    match machine.may_declare(name.as_str(), kind, value) {
+    match machine.may_declare(full, name.as_str(), kind, value) {
         Ok(()) => {
-            if full {
-                refused_declaration(LateDeclareError::HistoryFull)
-            } else {
-                let name = name.share()?;
-                Ok(Expectation::Due(What::Declared { name, kind, value }))
-            }
+            let name = name.share()?;
+            Ok(Expectation::Due(What::Declared { name, kind, value }))
         }
-        Err(error) => refused_declaration(declare_error(full, error)),
+        Err(error) => refused_declaration(error),
     }
 }
 
@@ -276,14 +215,10 @@ fn labelling(
     ensures { IfOk result (λ x. (s : Slow) → IsAt machine.now s
         → IsDueOn s full (Labelled ticket label.now) x) }
 {
-    match machine.may_label(ticket) {
+    match machine.may_label(full, ticket) {
         Ok(()) => {
-            if full {
-                refused_labelling(LabelError::HistoryFull)
-            } else {
-                let label = label.share()?;
-                Ok(Expectation::Due(What::Labelled { ticket, label }))
-            }
+            let label = label.share()?;
+            Ok(Expectation::Due(What::Labelled { ticket, label }))
         }
         Err(error) => refused_labelling(error),
     }
@@ -314,14 +249,8 @@ fn message_due(
     ensures { IfOk result (λ x. (s : Slow) (v : Verdict) → IsAt machine.old s
         → IsDueOn s full (Installed (message_ticket message) v) x) }
 {
-    match machine.may_deliver(&message) {
-        Ok(()) => {
-            if full {
-                refused_delivery(DeliverError::HistoryFull)
-            } else {
-                deliver(machine, message)
-            }
-        }
+    match machine.may_deliver(full, &message) {
+        Ok(()) => deliver(machine, message),
         Err(error) => refused_delivery(error),
     }
 }

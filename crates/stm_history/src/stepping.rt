@@ -127,7 +127,7 @@ fn submitted(machine: &mut Machine, ticket: u32, block: &SharedBlock) -> Result<
     ensures not_allowed { IsErrOf result StepError.NotAllowed
         → IsForbidden (Submitted ticket block.now) machine.old }
 {
-    match machine.may_submit(block) {
+    match machine.may_submit(false, block) {
         Ok(()) => {}
         Err(error) => return Err(submit_refused(error)),
     }
@@ -147,7 +147,7 @@ fn cancelled(machine: &mut Machine, ticket: u32) -> Result<(), StepError>
     ensures not_allowed { IsErrOf result StepError.NotAllowed
         → IsForbidden (Cancelled ticket) machine.old }
 {
-    match machine.may_cancel(ticket) {
+    match machine.may_cancel(false, ticket) {
         Ok(()) => {
             machine.cancel(ticket);
             Ok(())
@@ -166,7 +166,7 @@ fn declared(machine: &mut Machine, name: &str, kind: Ty, value: Value) -> Result
     if !is_name(name) {
         return Err(StepError::NotAllowed);
     }
-    match machine.may_declare(name, kind, value) {
+    match machine.may_declare(false, name, kind, value) {
         Ok(()) => {}
         Err(error) => return Err(declare_refused(error)),
     }
@@ -184,7 +184,7 @@ fn labelled(machine: &mut Machine, ticket: u32, label: &str) -> Result<(), StepE
     if !is_label(label) {
         return Err(StepError::NotAllowed);
     }
-    match machine.may_label(ticket) {
+    match machine.may_label(false, ticket) {
         Ok(()) => {
             machine.label(ticket, label);
             Ok(())
@@ -246,7 +246,7 @@ fn finished(
     ensures not_allowed { IsErrOf result StepError.NotAllowed
         → IsForbidden (Finished ticket verdict.now first_new stale.now) machine.old }
 {
-    match machine.plan(ticket) {
+    match machine.plan(false, ticket) {
         Ok(plan) => finish_by(machine, ticket, &plan, verdict, first_new, stale),
         Err(error) => Err(finish_refused(error)),
     }
@@ -276,7 +276,7 @@ fn may_bring(
     if !brings(message, verdict) {
         return Err(StepError::NotAllowed);
     }
-    match machine.may_deliver(message) {
+    match machine.may_deliver(false, message) {
         Ok(()) => Ok(()),
         Err(error) => Err(deliver_refused(error)),
     }

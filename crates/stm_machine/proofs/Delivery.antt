@@ -80,22 +80,28 @@ none_differs S [] d i v e = cc
 none_differs S (r ∷ rs) d i v e = agrees_step (has_value (S r.0) r.1) (nat_eq r.0 i) S r rs i v refl refl (λ g. none_differs S rs g i v) d e
 
 -- ---- what it is refused for
-pub refused_gone : (A : Type 0) (store : List Cell) (o : Option Waiter) (block : Block) (reads : List (ℕ × Value)) → o ≡ None → DeliveryRefusedAt {A = A} store false o block reads (Err deliver.Gone)
-refused_gone A store o block reads e = rw e refl
+pub refused_gone : (A : Type 0) (store : List Cell) (full : Bool) (o : Option Waiter) (block : Block) (reads : List (ℕ × Value)) → o ≡ None → DeliveryRefusedAt {A = A} store full o block reads (Err deliver.Gone)
+refused_gone A store full o block reads e = rw e refl
 
-pub refused_other : (A : Type 0) (store : List Cell) (o : Option Waiter) (w : Waiter) (block : Block) (reads : List (ℕ × Value)) → o ≡ Some w → w.block.tree ≢ block.tree
-    → DeliveryRefusedAt {A = A} store false o block reads (Err deliver.OtherBlock)
-refused_other A store o w block reads e n = rw e (λ m. refl, λ m. absurd (n m))
+pub refused_other : (A : Type 0) (store : List Cell) (full : Bool) (o : Option Waiter) (w : Waiter) (block : Block) (reads : List (ℕ × Value)) → o ≡ Some w → w.block.tree ≢ block.tree
+    → DeliveryRefusedAt {A = A} store full o block reads (Err deliver.OtherBlock)
+refused_other A store full o w block reads e n = rw e (λ m. refl, λ m. absurd (n m))
 
-pub refused_same : {A : Type 0} (store : List Cell) (o : Option Waiter) (w : Waiter) (block : Block) (reads : List (ℕ × Value)) (r : Option DeliverError) (result : Result A DeliverError) → o ≡ Some w → w.block.tree ≡ block.tree
-    → install_first store false w reads ≡ r → RefusedAs deliver.NoMemory r result → DeliveryRefusedAt store false o block reads result
-refused_same store o w block reads r result e s i f = rw e (λ m. absurd (m s), λ m. rw i f)
+pub refused_same : {A : Type 0} (store : List Cell) (full : Bool) (o : Option Waiter) (w : Waiter) (block : Block) (reads : List (ℕ × Value)) (r : Option DeliverError) (result : Result A DeliverError) → o ≡ Some w → w.block.tree ≡ block.tree
+    → install_first store full w reads ≡ r → RefusedAs deliver.NoMemory r result → DeliveryRefusedAt store full o block reads result
+refused_same store full o w block reads r result e s i f = rw e (λ m. absurd (m s), λ m. rw i f)
 
-pub first_already : (store : List Cell) (w : Waiter) (reads : List (ℕ × Value)) → is_current w ≡ true → install_first store false w reads ≡ Some deliver.Already
-first_already store w reads c = rw c refl
+pub first_already : (store : List Cell) (full : Bool) (w : Waiter) (reads : List (ℕ × Value)) → is_current w ≡ true → install_first store full w reads ≡ Some deliver.Already
+first_already store full w reads c = rw c refl
 
-pub first_overtaken : (store : List Cell) (w : Waiter) (reads : List (ℕ × Value)) (i : ℕ) → is_current w ≡ false → differing (under store) reads ≡ Some i → install_first store false w reads ≡ Some (deliver.Overtaken i)
-first_overtaken store w reads i c d = rw (c, d) refl
+pub first_overtaken : (store : List Cell) (full : Bool) (w : Waiter) (reads : List (ℕ × Value)) (i : ℕ) → is_current w ≡ false → differing (under store) reads ≡ Some i → install_first store full w reads ≡ Some (deliver.Overtaken i)
+first_overtaken store full w reads i c d = rw (c, d) refl
+
+pub first_full : (store : List Cell) (full : Bool) (w : Waiter) (reads : List (ℕ × Value)) → is_current w ≡ false → differing (under store) reads ≡ None → full ≡ true → install_first store full w reads ≡ Some deliver.HistoryFull
+first_full store full w reads c d f = rw (c, d, f) refl
+
+pub first_room : (store : List Cell) (full : Bool) (w : Waiter) (reads : List (ℕ × Value)) → is_current w ≡ false → differing (under store) reads ≡ None → full ≡ false → install_first store full w reads ≡ None
+first_room store full w reads c d f = rw (c, d, f) refl
 
 pub first_none : (store : List Cell) (w : Waiter) (reads : List (ℕ × Value)) → is_current w ≡ false → differing (under store) reads ≡ None → install_first store false w reads ≡ None
 first_none store w reads c d = rw (c, d) refl

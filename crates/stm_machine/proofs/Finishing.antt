@@ -36,27 +36,27 @@ use Rattle.stm_machine.proofs.Rises.{stale_is, stale_rising, watched_stale}
 use Rattle.stm_machine.proofs.States.{IsLike, rising_at, covered_at, holds_at, moves_to, like_at, same_verdict, same_rule, same_store}
 
 -- ---- what it is refused for, by what is kept
-pub no_ticket : (store : List Cell) (o : Option Waiter) → o ≡ None → finish_first store false o ≡ Some finish.NoTicket
-no_ticket store o e = rw e refl
+pub no_ticket : (store : List Cell) (full : Bool) (o : Option Waiter) → o ≡ None → finish_first store full o ≡ Some finish.NoTicket
+no_ticket store full o e = rw e refl
 
-pub not_evaluated : (store : List Cell) (o : Option Waiter) (w : Waiter) → o ≡ Some w → w.since ≡ None → finish_first store false o ≡ Some finish.NotEvaluated
-not_evaluated store o w e n = rw (e, n) refl
+pub not_evaluated : (store : List Cell) (full : Bool) (o : Option Waiter) (w : Waiter) → o ≡ Some w → w.since ≡ None → finish_first store full o ≡ Some finish.NotEvaluated
+not_evaluated store full o w e n = rw (e, n) refl
 
 -- a block with a delivery, and whether it is current
-pub first_stale : (store : List Cell) (o : Option Waiter) (w : Waiter) (s : Since) → o ≡ Some w → w.since ≡ Some s → is_current w ≡ false → finish_first store false o ≡ Some finish.Stale
-first_stale store o w s e n c =
+pub first_stale : (store : List Cell) (full : Bool) (o : Option Waiter) (w : Waiter) (s : Since) → o ≡ Some w → w.since ≡ Some s → is_current w ≡ false → finish_first store full o ≡ Some finish.Stale
+first_stale store full o w s e n c =
     let d : is_new w ≡ false = rw n refl in
     rw (e, c, d) refl
 
-pub first_blocks : (store : List Cell) (o : Option Waiter) (w : Waiter) (s : Since) (v : Verdict) → o ≡ Some w → w.since ≡ Some s → is_current w ≡ true → verdict_on store w.block ≡ Some v → is_blocks v ≡ true
-    → finish_first store false o ≡ Some finish.Blocks
-first_blocks store o w s v e n c r b =
+pub first_blocks : (store : List Cell) (full : Bool) (o : Option Waiter) (w : Waiter) (s : Since) (v : Verdict) → o ≡ Some w → w.since ≡ Some s → is_current w ≡ true → verdict_on store w.block ≡ Some v → is_blocks v ≡ true
+    → finish_first store full o ≡ Some finish.Blocks
+first_blocks store full o w s v e n c r b =
     let d : is_new w ≡ false = rw n refl in
     rw (e, c, d, r, b) refl
 
-pub first_rest : (store : List Cell) (o : Option Waiter) (w : Waiter) (s : Since) (v : Verdict) → o ≡ Some w → w.since ≡ Some s → is_current w ≡ true → verdict_on store w.block ≡ Some v → is_blocks v ≡ false
-    → finish_first store false o ≡ (if overflows store (Some v) then Some finish.CellsFull else None)
-first_rest store o w s v e n c r b =
+pub first_rest : (store : List Cell) (full : Bool) (o : Option Waiter) (w : Waiter) (s : Since) (v : Verdict) → o ≡ Some w → w.since ≡ Some s → is_current w ≡ true → verdict_on store w.block ≡ Some v → is_blocks v ≡ false
+    → finish_first store full o ≡ (if full then Some finish.HistoryFull else if overflows store (Some v) then Some finish.CellsFull else None)
+first_rest store full o w s v e n c r b =
     let d : is_new w ≡ false = rw n refl in
     rw (e, c, d, r, b) refl
 

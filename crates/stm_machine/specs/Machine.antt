@@ -73,10 +73,11 @@ HasTicketLeft s = s.next < 4294967295
 abbrev pub installation_of : Evaluated → What
 installation_of message = Installed (message_ticket message) (message_verdict message)
 
--- the message is refused as it is on each state that the machine is at, for the first reason that holds
-abbrev pub RefusesMessage : {A : Type 0} → Parts → Evaluated → Result A DeliverError → Type 0
-RefusesMessage m message result =
-    (s : Slow) → IsAt m s → DeliveryRefusedAs s false (message_ticket message) (message_block message) (message_reads message) result
+-- the message is refused as it is on each state that the machine is at, for the first reason that holds; `full` says whether the
+-- history is, which a machine doesn't have
+abbrev pub RefusesMessage : {A : Type 0} → Parts → Bool → Evaluated → Result A DeliverError → Type 0
+RefusesMessage m full message result =
+    (s : Slow) → IsAt m s → DeliveryRefusedAs s full (message_ticket message) (message_block message) (message_reads message) result
 
 -- if a block waits under the ticket of the message, the message is of a block with its tree
 abbrev pub IsOfWaiter : Slow → Evaluated → Type 0

@@ -1,6 +1,6 @@
 //! A block that is cancelled.
 
-ghost use Rattle.std.specs.Prelude.{◌≡◌, false, None};
+ghost use Rattle.std.specs.Prelude.{◌≡◌, false, None, OnOk};
 ghost use Rattle.stm_terms.specs.UnlessNoMemory.{RefusedAs};
 ghost use Rattle.stm_queue.specs.Queue.{without_ticket};
 ghost use Rattle.stm_events.specs.declared.event.What.{What as AnyWhat};
@@ -13,14 +13,21 @@ use crate::machine::Machine;
 use stm_events::errors::CancelError;
 
 impl Machine {
-    /// Why the block under a ticket can't be cancelled.
-    pub fn may_cancel(&self, ticket: u32) -> Result<(), CancelError>
-        ensures { (s : Slow) → IsAt self.now s
-            → RefusedAs CancelError.NoMemory (cancel_refused s false ticket) result }
+    /// Why the block under a ticket can't be cancelled. `full` says whether the history is.
+    pub fn may_cancel(&self, full: bool, ticket: u32) -> Result<(), CancelError>
+        ensures refused { (s : Slow) → IsAt self.now s
+            → RefusedAs CancelError.NoMemory (cancel_refused s full ticket) result }
+        ensures room { OnOk result (full ≡ false) }
     {
         match self.waiting.get(ticket) {
             None => Err(CancelError::NoTicket),
-            Some(_) => Ok(()),
+            Some(_) => {
+                if full {
+                    Err(CancelError::HistoryFull)
+                } else {
+                    Ok(())
+                }
+            }
         }
     }
 

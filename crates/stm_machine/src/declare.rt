@@ -45,16 +45,26 @@ fn with_variable(alloc: Global, store: &Store, kind: Ty, value: Value) -> Result
 }
 
 impl Machine {
-    /// Why a variable can't be declared. The caller knows that the name is one.
-    pub fn may_declare(&self, name: &str, kind: Ty, value: Value) -> Result<(), LateDeclareError>
-        ensures { (s : Slow) → IsAt self.now s
-            → RefusedAs LateDeclareError.NoMemory (late_declare_refused s false name.now kind value) result }
+    /// Why a variable can't be declared. The caller knows that the name is one, and says whether the history is full.
+    pub fn may_declare(
+        &self,
+        full: bool,
+        name: &str,
+        kind: Ty,
+        value: Value,
+    ) -> Result<(), LateDeclareError>
+        ensures refused { (s : Slow) → IsAt self.now s
+            → RefusedAs LateDeclareError.NoMemory (late_declare_refused s full name.now kind value) result }
+        ensures room { OnOk result (full ≡ false) }
     {
         if self.names.find(name).is_some() {
             return Err(LateDeclareError::Twice);
         }
         if !self.names.may_hold(kind, value) {
             return Err(LateDeclareError::TypeOfValue);
+        }
+        if full {
+            return Err(LateDeclareError::HistoryFull);
         }
         if self.store.len() >= Store::LIMIT {
             return Err(LateDeclareError::CellsFull);

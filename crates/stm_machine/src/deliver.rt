@@ -1,6 +1,6 @@
 //! A message of an evaluator.
 
-ghost use Rattle.std.specs.Prelude.{◌≡◌, ◌<◌, IfOk, OnOk, IfErr, OnErr, IsTrue, ◌↔◌};
+ghost use Rattle.std.specs.Prelude.{◌≡◌, ◌<◌, false, IfOk, OnOk, IfErr, OnErr, IsTrue, ◌↔◌};
 ghost use Rattle.stm_terms.specs.Value.{same_value};
 ghost use Rattle.stm_watch.specs.Pairs.{WithReads};
 ghost use Rattle.stm_queue.specs.Queue.{without_ticket};
@@ -94,10 +94,11 @@ fn take_memory(
 }
 
 impl Machine {
-    /// Why the message can't be delivered.
-    pub fn may_deliver(&self, message: &Evaluated) -> Result<(), DeliverError>
-        ensures refused { RefusesMessage self.now message.now result }
+    /// Why the message can't be delivered. `full` says whether the history is.
+    pub fn may_deliver(&self, full: bool, message: &Evaluated) -> Result<(), DeliverError>
+        ensures refused { RefusesMessage self.now full message.now result }
         ensures allowed { OnOk result ((s : Slow) → IsAt self.now s → MayDeliver s message.now) }
+        ensures room { OnOk result (full ≡ false) }
     {
         let waiting = match self.waiting.get(message.ticket()) {
             Some(waiting) => waiting,
@@ -106,14 +107,15 @@ impl Machine {
         if !is_of(waiting, message) {
             return Err(DeliverError::OtherBlock);
         }
-        self.may_deliver_own(message)
+        self.may_deliver_own(full, message)
     }
 
     /// Why a message can't be delivered that is of the block that waits under its ticket, if one does: its block is not compared.
-    pub fn may_deliver_own(&self, message: &Evaluated) -> Result<(), DeliverError>
+    pub fn may_deliver_own(&self, full: bool, message: &Evaluated) -> Result<(), DeliverError>
         requires own { (s : Slow) → IsAt self.now s → IsOfWaiter s message.now }
-        ensures refused { RefusesMessage self.now message.now result }
+        ensures refused { RefusesMessage self.now full message.now result }
         ensures allowed { OnOk result ((s : Slow) → IsAt self.now s → MayDeliver s message.now) }
+        ensures room { OnOk result (full ≡ false) }
     {
         let ticket = message.ticket();
         let _waiting = match self.waiting.get(ticket) {
@@ -125,7 +127,13 @@ impl Machine {
         }
         match first_read_differing(&self.store, message) {
             Some(id) => Err(DeliverError::Overtaken(id)),
-            None => Ok(()),
+            None => {
+                if full {
+                    Err(DeliverError::HistoryFull)
+                } else {
+                    Ok(())
+                }
+            }
         }
     }
 

@@ -98,11 +98,12 @@ pub(crate) fn take_effect(
 }
 
 impl Machine {
-    /// Why the block under a ticket can't finish, or what its finish is to do.
-    pub fn plan(&self, ticket: u32) -> Result<Plan, FinishError>
+    /// Why the block under a ticket can't finish, or what its finish is to do. `full` says whether the history is.
+    pub fn plan(&self, full: bool, ticket: u32) -> Result<Plan, FinishError>
         ensures refused { (s : Slow) → IsAt self.now s
-            → RefusedAs FinishError.NoMemory (finish_refused s false ticket) result }
+            → RefusedAs FinishError.NoMemory (finish_refused s full ticket) result }
         ensures plan { IfOk result (λ p. (s : Slow) → IsAt self.now s → IsPlanFor s ticket p) }
+        ensures room { OnOk result (full ≡ false) }
     {
         let waiting = match self.waiting.get(ticket) {
             Some(waiting) => waiting,
@@ -121,6 +122,9 @@ impl Machine {
         }
         if blocks(verdict) {
             return Err(FinishError::Blocks);
+        }
+        if full {
+            return Err(FinishError::HistoryFull);
         }
         if overflows_store(&self.store, verdict) {
             return Err(FinishError::CellsFull);

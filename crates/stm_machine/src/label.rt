@@ -1,6 +1,6 @@
 //! A block that gets a label, which leaves the machine as it is.
 
-ghost use Rattle.std.specs.Prelude.{◌≡◌, false, true, None};
+ghost use Rattle.std.specs.Prelude.{◌≡◌, false, true, None, OnOk};
 ghost use Rattle.stm_terms.specs.UnlessNoMemory.{RefusedAs};
 ghost use Rattle.stm_events.specs.declared.event.What.{What as AnyWhat};
 ghost use Rattle.stm_events.specs.Labels.{is_label};
@@ -12,14 +12,21 @@ use crate::machine::Machine;
 use stm_events::errors::LabelError;
 
 impl Machine {
-    /// Why the block under a ticket can't get a label. The caller knows that the text is one.
-    pub fn may_label(&self, ticket: u32) -> Result<(), LabelError>
-        ensures { (s : Slow) → IsAt self.now s
-            → RefusedAs LabelError.NoMemory (label_refused s false ticket) result }
+    /// Why the block under a ticket can't get a label. The caller knows that the text is one, and says whether the history is full.
+    pub fn may_label(&self, full: bool, ticket: u32) -> Result<(), LabelError>
+        ensures refused { (s : Slow) → IsAt self.now s
+            → RefusedAs LabelError.NoMemory (label_refused s full ticket) result }
+        ensures room { OnOk result (full ≡ false) }
     {
         match self.waiting.get(ticket) {
             None => Err(LabelError::NoTicket),
-            Some(_) => Ok(()),
+            Some(_) => {
+                if full {
+                    Err(LabelError::HistoryFull)
+                } else {
+                    Ok(())
+                }
+            }
         }
     }
 

@@ -1,6 +1,6 @@
 //! A block that is submitted.
 
-ghost use Rattle.std.specs.Prelude.{◌≡◌, false, None, IfOk, OnErr};
+ghost use Rattle.std.specs.Prelude.{◌≡◌, false, None, IfOk, OnOk, OnErr};
 ghost use Rattle.stm_terms.specs.UnlessNoMemory.{RefusedAs};
 ghost use Rattle.stm_store.specs.Cells.{plains, kinds_of};
 ghost use Rattle.stm_store.specs.Tables.{is_type};
@@ -37,10 +37,11 @@ fn first_missing(store: &Store, uses: &[(u32, Ty)]) -> Option<u32>
 }
 
 impl Machine {
-    /// Why the block can't be submitted.
-    pub fn may_submit(&self, block: &SharedBlock) -> Result<(), SubmitError>
-        ensures { (s : Slow) → IsAt self.now s
-            → RefusedAs SubmitError.NoMemory (submit_refused s false block.now) result }
+    /// Why the block can't be submitted. `full` says whether the history is, which the machine doesn't have.
+    pub fn may_submit(&self, full: bool, block: &SharedBlock) -> Result<(), SubmitError>
+        ensures refused { (s : Slow) → IsAt self.now s
+            → RefusedAs SubmitError.NoMemory (submit_refused s full block.now) result }
+        ensures room { OnOk result (full ≡ false) }
     {
         match first_missing(&self.store, block.block().uses()) {
             Some(id) => return Err(SubmitError::Foreign(id)),
@@ -48,6 +49,9 @@ impl Machine {
         }
         if self.waiting.len() >= Machine::MAX_WAITING {
             return Err(SubmitError::WaitingFull);
+        }
+        if full {
+            return Err(SubmitError::HistoryFull);
         }
         Ok(())
     }

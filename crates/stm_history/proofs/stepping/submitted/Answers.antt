@@ -8,11 +8,11 @@ use Rattle.stm_history.proofs.stepping.submitted.Goals as goal
 pub submit-requires : goal.submit-requires
 submit-requires c =
     let here = c.requires in
-    (here.0, here.1, here.2, ap (submit_refused here.0 false) c.in_ok-block.ensures ∙ not_refused NoMemory _ _ (c.in-Ok.ensures here.0 here.1))
+    (here.0, here.1, here.2, ap (submit_refused here.0 false) c.in_ok-block.ensures ∙ not_refused NoMemory _ _ (c.in-Ok.ensures.refused here.0 here.1))
 
 pub returns-in-Err-clause-not_allowed : goal.returns-in-Err-clause-not_allowed
 returns-in-Err-clause-not_allowed c = λ n s k a.
-    let memory = c.submit_refused.ensures (only_memory _ NoMemory _ _ (submit_not_refused s c.args.ticket c.args.block.now a) (c.in-Err.ensures s k)) in
+    let memory = c.submit_refused.ensures (only_memory _ NoMemory _ _ (submit_not_refused s c.args.ticket c.args.block.now a) (c.in-Err.ensures.refused s k)) in
     cc
 
 pub returns-then-given-ticket-clause-done : goal.returns-then-given-ticket-clause-done

@@ -1,25 +1,18 @@
-use Rattle.std.proofs.Common.{subst}
-use Rattle.std.specs.Prelude.{nat_lt, is_some, length}
-use Rattle.stm_store.specs.Naming.{number_named, may_hold_known}
+use Rattle.std.proofs.Common.{◌≡◌, Bool, false, subst}
+use Rattle.std.specs.Prelude.{OnOk}
 use Rattle.stm_terms.specs.UnlessNoMemory.{RefusedAs}
 use Rattle.stm_events.specs.declared.errors.LateDeclareError.TheVariants.{NoMemory}
-use Rattle.stm_events.specs.SlowDesk.{max_cells}
+use Rattle.stm_events.specs.Refusals.{late_declare_refused}
 use Rattle.stm_desk.specs.DeskView.{DeskView, state_of, is_full}
-use Rattle.stm_desk.specs.Limit.{limited_declare}
-use Rattle.stm_desk.specs.Refusals.{late_declare_refusal}
-use Rattle.stm_desk.proofs.Limit.{declare_limited, declare_room}
+use Rattle.stm_desk.proofs.Views.{view_of}
 use Rattle.stm_desk.proofs.desk.Desk.may_declare.Goals as goal
 
 pub returns-clause-refused : goal.returns-clause-refused
 returns-clause-refused c =
-    let d : DeskView = record { table = c.self.inside.table; checkpoint = c.self.inside.checkpoint; limit = c.self.inside.limit; history = c.self.inside.history.items; pending = c.self.inside.machine.pending } in
-    let s = state_of d in
-    let name = c.args.name.now in
-    let kind = c.args.kind in
-    let value = c.args.value in
-    let g : RefusedAs NoMemory (late_declare_refusal d name kind value) (limited_declare (is_full d) c.may_declare.result) =
-    declare_limited (is_some (number_named name s.names)) (may_hold_known s.names kind value) (is_full d) (nat_lt (length s.store) max_cells) c.may_declare.result (c.may_declare.ensures s c.self.invariant.0.at) in
-    rw (c.limit_declare.ensures, c.is_full.ensures) (subst (λ (x : DeskView). RefusedAs NoMemory (late_declare_refusal x name kind value) (limited_declare (is_full x) c.may_declare.result)) c.self.view_is g)
+    let r = c.may_declare.result in
+    let here = c.may_declare.ensures.refused (state_of (view_of c.self.inside)) c.self.invariant.0.at in
+    subst (λ (d : DeskView). RefusedAs NoMemory (late_declare_refused (state_of d) (is_full c.args.self.now) c.args.name.now c.args.kind c.args.value) r) c.self.view_is
+    (subst (λ (full : Bool). RefusedAs NoMemory (late_declare_refused (state_of (view_of c.self.inside)) full c.args.name.now c.args.kind c.args.value) r) c.is_full-full.ensures here)
 
 pub returns-clause-room : goal.returns-clause-room
-returns-clause-room c = rw (c.limit_declare.ensures, c.is_full.ensures) (declare_room (is_full c.args.self.now) c.may_declare.result)
+returns-clause-room c = subst (λ (full : Bool). OnOk c.may_declare.result (full ≡ false)) c.is_full-full.ensures c.may_declare.ensures.room

@@ -1,15 +1,14 @@
-use Rattle.std.proofs.Common.{◌∙◌, sym, ap, subst}
+use Rattle.std.proofs.Common.{◌≡◌, Bool, false, sym, ap, ◌∙◌, subst}
 use Rattle.std.specs.Prelude.{Result, Ok, Err, OnOk}
 use Rattle.stm_eval.specs.EvaluatedFields.{message_ticket, message_block, message_reads}
-use Rattle.stm_events.specs.SlowDesk.{Slow, find_waiter}
+use Rattle.stm_eval.specs.declared.message.Evaluated.{Evaluated}
+use Rattle.stm_events.specs.Refusals.{DeliveryRefusedAs}
+use Rattle.stm_events.specs.SlowDesk.{Slow}
 use Rattle.stm_events.specs.States.{IsTicketOf}
 use Rattle.stm_machine.specs.Machine.{Parts, IsAt, MayDeliver}
 use Rattle.stm_machine.proofs.States.{like_at}
-use Rattle.stm_eval.specs.declared.message.Evaluated.{Evaluated}
 use Rattle.stm_desk.specs.DeskView.{DeskView, state_of, is_full}
-use Rattle.stm_desk.specs.Limit.{limited_delivery}
-use Rattle.stm_desk.specs.Refusals.{RefusesDelivery}
-use Rattle.stm_desk.proofs.Limit.{delivery_limited, delivery_room, delivery_allowed}
+use Rattle.stm_desk.proofs.Views.{view_of}
 use Rattle.stm_desk.proofs.desk.Desk.may_deliver_own.Goals as goal
 
 at_state : {A E : Type 0} (r : Result A E) (m : Parts) (s : Slow) (message : Evaluated) → IsAt m s → OnOk r ((s : Slow) → IsAt m s → MayDeliver s message) → OnOk r (MayDeliver s message)
@@ -18,29 +17,26 @@ at_state (Err e) m s message k h = tt
 
 pub returns-clause-refused : goal.returns-clause-refused
 returns-clause-refused c =
-    let d : DeskView = record { table = c.self.inside.table; checkpoint = c.self.inside.checkpoint; limit = c.self.inside.limit; history = c.self.inside.history.items; pending = c.self.inside.machine.pending } in
-    let s = state_of d in
+    let r = c.may_deliver_own.result in
     let m = c.args.message.now in
-    let g : RefusesDelivery (limited_delivery (is_full d) c.may_deliver_own.result) d m =
-    delivery_limited s.store (is_full d) (find_waiter (message_ticket m) s.waiters) (message_block m) (message_reads m) c.may_deliver_own.result (c.may_deliver_own.ensures.refused s c.self.invariant.0.at) in
-    rw (c.limit_delivery.ensures, c.is_full.ensures) (subst (λ (x : DeskView). RefusesDelivery (limited_delivery (is_full x) c.may_deliver_own.result) x m) c.self.view_is g)
+    let here = c.may_deliver_own.ensures.refused (state_of (view_of c.self.inside)) c.self.invariant.0.at in
+    subst (λ (d : DeskView). DeliveryRefusedAs (state_of d) (is_full c.args.self.now) (message_ticket m) (message_block m) (message_reads m) r) c.self.view_is
+    (subst (λ (full : Bool). DeliveryRefusedAs (state_of (view_of c.self.inside)) full (message_ticket m) (message_block m) (message_reads m) r) c.is_full-full.ensures here)
 
 pub returns-clause-allowed : goal.returns-clause-allowed
 returns-clause-allowed c =
-    let d : DeskView = record { table = c.self.inside.table; checkpoint = c.self.inside.checkpoint; limit = c.self.inside.limit; history = c.self.inside.history.items; pending = c.self.inside.machine.pending } in
     let m = c.args.message.now in
-    let g : OnOk (limited_delivery (is_full d) c.may_deliver_own.result) (MayDeliver (state_of d) m) =
-    delivery_allowed (MayDeliver (state_of d) m) (is_full d) c.may_deliver_own.result (at_state c.may_deliver_own.result c.self.inside.machine (state_of d) m c.self.invariant.0.at c.may_deliver_own.ensures.allowed) in
-    rw (c.limit_delivery.ensures, c.is_full.ensures) (subst (λ (x : DeskView). OnOk (limited_delivery (is_full x) c.may_deliver_own.result) (MayDeliver (state_of x) m)) c.self.view_is g)
+    subst (λ (d : DeskView). OnOk c.may_deliver_own.result (MayDeliver (state_of d) m)) c.self.view_is
+    (at_state c.may_deliver_own.result c.self.inside.machine (state_of (view_of c.self.inside)) m c.self.invariant.0.at c.may_deliver_own.ensures.allowed)
 
 pub returns-clause-room : goal.returns-clause-room
-returns-clause-room c = rw (c.limit_delivery.ensures, c.is_full.ensures) (delivery_room (is_full c.args.self.now) c.may_deliver_own.result)
+returns-clause-room c = subst (λ (full : Bool). OnOk c.may_deliver_own.result (full ≡ false)) c.is_full-full.ensures c.may_deliver_own.ensures.room
 
 pub may_deliver_own-requires : goal.may_deliver_own-requires
 may_deliver_own-requires c = record {
   own = λ s k w found.
       let m = c.args.message.now in
-      let d : DeskView = record { table = c.self.inside.table; checkpoint = c.self.inside.checkpoint; limit = c.self.inside.limit; history = c.self.inside.history.items; pending = c.self.inside.machine.pending } in
+      let d = view_of c.self.inside in
       let given = subst (λ (x : DeskView). IsTicketOf (message_block m) (state_of x) (message_ticket m)) (sym c.self.view_is) c.requires.own in
       let l = like_at c.self.inside.machine s (state_of d) k c.self.invariant.0.at (message_ticket m) w found in
       ap (λ b. b.tree) (sym l.block ∙ given.waits l.other l.found);

@@ -1,21 +1,18 @@
-use Rattle.std.proofs.Common.{subst}
+use Rattle.std.proofs.Common.{◌≡◌, Bool, false, subst}
+use Rattle.std.specs.Prelude.{OnOk}
 use Rattle.stm_terms.specs.UnlessNoMemory.{RefusedAs}
 use Rattle.stm_events.specs.declared.errors.LabelError.TheVariants.{NoMemory}
-use Rattle.stm_events.specs.SlowDesk.{find_waiter}
+use Rattle.stm_events.specs.Refusals.{label_refused}
 use Rattle.stm_desk.specs.DeskView.{DeskView, state_of, is_full}
-use Rattle.stm_desk.specs.Limit.{limited_label}
-use Rattle.stm_desk.specs.Refusals.{label_refusal}
-use Rattle.stm_desk.proofs.Limit.{label_limited, label_room}
+use Rattle.stm_desk.proofs.Views.{view_of}
 use Rattle.stm_desk.proofs.desk.Desk.may_label.Goals as goal
 
 pub returns-clause-refused : goal.returns-clause-refused
 returns-clause-refused c =
-    let d : DeskView = record { table = c.self.inside.table; checkpoint = c.self.inside.checkpoint; limit = c.self.inside.limit; history = c.self.inside.history.items; pending = c.self.inside.machine.pending } in
-    let s = state_of d in
-    let t = c.args.ticket in
-    let g : RefusedAs NoMemory (label_refusal d t) (limited_label (is_full d) c.may_label.result) =
-    label_limited (find_waiter t s.waiters) (is_full d) c.may_label.result (c.may_label.ensures s c.self.invariant.0.at) in
-    rw (c.limit_label.ensures, c.is_full.ensures) (subst (λ (x : DeskView). RefusedAs NoMemory (label_refusal x t) (limited_label (is_full x) c.may_label.result)) c.self.view_is g)
+    let r = c.may_label.result in
+    let here = c.may_label.ensures.refused (state_of (view_of c.self.inside)) c.self.invariant.0.at in
+    subst (λ (d : DeskView). RefusedAs NoMemory (label_refused (state_of d) (is_full c.args.self.now) c.args.ticket) r) c.self.view_is
+    (subst (λ (full : Bool). RefusedAs NoMemory (label_refused (state_of (view_of c.self.inside)) full c.args.ticket) r) c.is_full-full.ensures here)
 
 pub returns-clause-room : goal.returns-clause-room
-returns-clause-room c = rw (c.limit_label.ensures, c.is_full.ensures) (label_room (is_full c.args.self.now) c.may_label.result)
+returns-clause-room c = subst (λ (full : Bool). OnOk c.may_label.result (full ≡ false)) c.is_full-full.ensures c.may_label.ensures.room

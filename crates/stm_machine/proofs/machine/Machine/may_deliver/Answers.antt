@@ -13,7 +13,7 @@ returns-in-None-clause-refused c = λ s h.
     let k = subst (λ (m : Parts). IsAt m s) (sym c.self.view_is) h in
     let m = c.args.message.now in
     let e : kept_at (message_ticket m) c.self.inside.waiting ≡ None = rw (← c.ticket.ensures) (sym c.get.ensures ∙ ap option_copied c.in-None.is) in
-    refused_gone _ _ _ (message_block m) (message_reads m) (lost (message_ticket m) c.self.inside.waiting _ k.stands.entries_are e)
+    refused_gone _ _ c.args.full _ (message_block m) (message_reads m) (lost (message_ticket m) c.self.inside.waiting _ k.stands.entries_are e)
 
 pub returns-then-not-is_of-clause-refused : goal.returns-then-not-is_of-clause-refused
 returns-then-not-is_of-clause-refused c = λ s h.
@@ -22,7 +22,7 @@ returns-then-not-is_of-clause-refused c = λ s h.
     let e : kept_at (message_ticket m) c.self.inside.waiting ≡ Some c.in-Some.waiting.now = rw (← c.ticket.ensures) (sym c.get.ensures ∙ ap option_copied c.in-Some.is) in
     let p = waits (message_ticket m) _ c.self.inside.waiting _ k.stands.entries_are e in
     let n : p.one.block.tree ≢ (message_block m).tree = λ s. let t = c.is_of.ensures.1 (ap (λ b. b.tree) p.same.block ∙ s) in cc (t, c.if-not-is_of.true) in
-    refused_other _ _ _ p.one (message_block m) (message_reads m) p.found n
+    refused_other _ _ c.args.full _ p.one (message_block m) (message_reads m) p.found n
 
 pub may_deliver_own-requires : goal.may_deliver_own-requires
 may_deliver_own-requires c = record {

@@ -8,24 +8,32 @@ use Rattle.stm_machine.specs.Machine.{Parts, IsAt}
 use Rattle.stm_machine.proofs.Due.{length_due}
 use Rattle.stm_machine.proofs.machine.Machine.may_submit.Goals as goal
 
-pub returns-in-Some : goal.returns-in-Some
-returns-in-Some c = λ s h.
+pub returns-in-Some-clause-refused : goal.returns-in-Some-clause-refused
+returns-in-Some-clause-refused c = λ s h.
     let k = subst (λ (m : Parts). IsAt m s) (sym c.self.view_is) h in
     let m : missing (plains s.store) c.args.block.now.uses ≡ Some c.in-Some.id = rw (← k.stands.store_is, ← c.block.ensures, ← c.uses.ensures) (sym c.first_missing.ensures ∙ c.in-Some.is) in
     rw m refl
 
-pub returns-then-len-ge-MAX_WAITING : goal.returns-then-len-ge-MAX_WAITING
-returns-then-len-ge-MAX_WAITING c = λ s h.
+pub returns-then-len-ge-MAX_WAITING-clause-refused : goal.returns-then-len-ge-MAX_WAITING-clause-refused
+returns-then-len-ge-MAX_WAITING-clause-refused c = λ s h.
     let k = subst (λ (m : Parts). IsAt m s) (sym c.self.view_is) h in
     let m : missing (plains s.store) c.args.block.now.uses ≡ None = rw (← k.stands.store_is, ← c.block.ensures, ← c.uses.ensures) (sym c.first_missing.ensures ∙ c.in-None.is) in
     let l = length_due _ _ k.stands.entries_are in
     let many : nat_le max_waiting (length s.waiters) ≡ true = rw (← l) (grind (arith, nat_tests, c.len.ensures)) in
     rw (m, many) refl
 
-pub returns : goal.returns
-returns c = λ s h.
+pub returns-then-full-clause-refused : goal.returns-then-full-clause-refused
+returns-then-full-clause-refused c = λ s h.
     let k = subst (λ (m : Parts). IsAt m s) (sym c.self.view_is) h in
     let m : missing (plains s.store) c.args.block.now.uses ≡ None = rw (← k.stands.store_is, ← c.block.ensures, ← c.uses.ensures) (sym c.first_missing.ensures ∙ c.in-None.is) in
     let l = length_due _ _ k.stands.entries_are in
     let few : nat_le max_waiting (length s.waiters) ≡ false = rw (← l) (grind (arith, nat_tests, c.len.ensures)) in
-    rw (m, few) tt
+    rw (m, few, c.if-full.true) refl
+
+pub returns-clause-refused : goal.returns-clause-refused
+returns-clause-refused c = λ s h.
+    let k = subst (λ (m : Parts). IsAt m s) (sym c.self.view_is) h in
+    let m : missing (plains s.store) c.args.block.now.uses ≡ None = rw (← k.stands.store_is, ← c.block.ensures, ← c.uses.ensures) (sym c.first_missing.ensures ∙ c.in-None.is) in
+    let l = length_due _ _ k.stands.entries_are in
+    let few : nat_le max_waiting (length s.waiters) ≡ false = rw (← l) (grind (arith, nat_tests, c.len.ensures)) in
+    rw (m, few, c.if-full.false) tt
