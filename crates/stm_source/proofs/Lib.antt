@@ -1,4 +1,5 @@
 mod CompiledTexts
+mod DeclaredTexts
 pub mod LaterNames
 mod OneAnswer
 pub mod PreparedBlocks
