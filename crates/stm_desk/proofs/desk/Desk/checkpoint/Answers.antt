@@ -2,7 +2,8 @@ use Rattle.std.proofs.Common.{ℕ}
 use Rattle.stm_machine.specs.declared.checkpoint.CheckpointError.TheVariants.{NoMemory}
 use Rattle.stm_machine.specs.Checkpoints.{CheckpointView}
 use Rattle.stm_desk.specs.Checkpointed.{checkpoint_refusal}
-use Rattle.stm_desk.proofs.Calls.{accepted, unless_memory, refused_alike}
+use Rattle.stm_terms.proofs.Refused.{accepted}
+use Rattle.stm_desk.proofs.Calls.{unless_memory, refused_alike}
 use Rattle.stm_desk.proofs.desk.Desk.checkpoint.Goals as goal
 
 pub returns-in-Ok-clause-refused : goal.returns-in-Ok-clause-refused

@@ -1,13 +1,13 @@
-use Rattle.std.proofs.Common.{Option, Result, Err, refl, sym, ap, subst, ◌∙◌}
+use Rattle.std.proofs.Common.{Option, Err, ap, subst, ◌∙◌}
 use Rattle.stm_terms.specs.UnlessNoMemory.{RefusedAs}
 use Rattle.stm_events.specs.Labels.{labels_from}
 use Rattle.stm_events.specs.SlowDesk.{state_from}
+use Rattle.stm_machine.specs.declared.checkpoint.Checkpoint.{Checkpoint}
 use Rattle.stm_machine.specs.declared.checkpoint.CheckpointError.{CheckpointError}
 use Rattle.stm_machine.specs.declared.checkpoint.CheckpointError.TheVariants.{NoMemory}
-use Rattle.stm_machine.specs.Checkpoints.{CheckpointView, checkpoint_of, checkpoint_refused, first_labels, with_labels, start_of}
+use Rattle.stm_machine.specs.Checkpoints.{checkpoint_of, checkpoint_refused, first_labels, with_labels, start_of}
 use Rattle.stm_desk.specs.DeskView.{DeskView, state_of, labels_of}
 use Rattle.stm_desk.specs.Checkpointed.{checkpoint_refusal}
-use Rattle.stm_desk.proofs.Calls.{accepted, unless_memory}
 use Rattle.stm_desk.proofs.Checkpointed.{now_typed, now_rule}
 use Rattle.stm_desk.proofs.CheckpointLabels.{same_checkpoint}
 use Rattle.stm_desk.proofs.desk.Desk.next_checkpoint.Goals as goal
@@ -29,20 +29,7 @@ with_causes-requires c =
     ∙ same_checkpoint d.labels (labels_from (first_labels d.checkpoint) d.history.items) (checkpoint_of s) c.self.invariant.1.same
     ∙ ap (λ (x : DeskView). with_labels (labels_of x) (checkpoint_of (state_of x))) c.self.view_is
 
-refused_as : CheckpointError → Result CheckpointView CheckpointError
-refused_as e = Err e
-
-pub returns-in-Ok-clause-refused : goal.returns-in-Ok-clause-refused
-returns-in-Ok-clause-refused c =
-    let same = ap checkpoint_refused c.self.invariant.0.at.stands.next_is ∙ ap checkpoint_refusal c.self.view_is in
-    unless_memory NoMemory (checkpoint_refusal c.args.self.now) _ (sym same ∙ accepted NoMemory (checkpoint_refused c.self.inside.machine.next) _ c.in-Ok.ensures.refused) tt
-
-pub returns-in_err-with_causes-clause-refused : goal.returns-in_err-with_causes-clause-refused
-returns-in_err-with_causes-clause-refused c =
-    let same = ap checkpoint_refused c.self.invariant.0.at.stands.next_is ∙ ap checkpoint_refusal c.self.view_is in
-    unless_memory NoMemory (checkpoint_refusal c.args.self.now) _ (sym same ∙ accepted NoMemory (checkpoint_refused c.self.inside.machine.next) _ c.in-Ok.ensures.refused) refl
-
 pub returns-in-Err-clause-refused : goal.returns-in-Err-clause-refused
 returns-in-Err-clause-refused c =
     let same = ap checkpoint_refused c.self.invariant.0.at.stands.next_is ∙ ap checkpoint_refusal c.self.view_is in
-    subst (λ (o : Option CheckpointError). RefusedAs NoMemory o (refused_as c.in-Err.refusal)) same c.in-Err.ensures.refused
+    subst (λ (o : Option CheckpointError). RefusedAs {A = Checkpoint} NoMemory o (Err c.in-Err.refusal)) same c.in-Err.ensures.refused
