@@ -1,5 +1,5 @@
 -- What the variable of a text is, by what the table says of a variable of its name, type and first value.
-use Rattle.std.proofs.Common.{◌≡◌, ◌≢◌, ℕ, List, [], ◌∷◌, ◌++◌, Ok, Err, ap, subst, ◌∙◌}
+use Rattle.std.proofs.Common.{◌≡◌, ℕ, List, [], ◌∷◌, ◌++◌, Ok, Err, ap, subst, ◌∙◌}
 use Rattle.std.specs.Prelude.{length}
 use Rattle.stm_terms.specs.declared.values.Value.{Value}
 use Rattle.stm_terms.specs.UnlessNoMemory.{RefusedAs}
