@@ -4,9 +4,8 @@ use Rattle.stm_eval.specs.declared.message.Evaluated.{Evaluated}
 use Rattle.stm_eval.specs.EvaluatedFields.{message_ticket}
 use Rattle.stm_events.specs.declared.errors.DeliverError.{DeliverError}
 use Rattle.stm_events.specs.declared.event.What.{What}
-use Rattle.stm_machine.specs.Machine.{event}
+use Rattle.stm_machine.specs.Machine.{event, installation_of}
 use Rattle.stm_desk.specs.DeskView.{DeskView, with_event}
-use Rattle.stm_desk.specs.Events.{installation_of}
 use Rattle.stm_desk.specs.Refusals.{requeued_if_overtaken}
 use Rattle.stm_pool.specs.Own.{Known, with_own}
 
