@@ -1,5 +1,5 @@
 -- What came of a line, by its reply: it follows from four facts of each reply, and these from it.
-use Rattle.std.proofs.Common.{◌≡◌, ℕ, List, [], ◌++◌, Bool, true, Result, Ok, Err, IfOk, OnOk, refl, sym, ap, ◌∙◌, subst, append-nil}
+use Rattle.std.proofs.Common.{◌≡◌, ℕ, List, [], ◌++◌, Bool, true, false, Result, Ok, Err, IfOk, OnOk, refl, sym, ap, ◌∙◌, subst, append-nil}
 use Rattle.std.specs.Result.{result_and}
 use Rattle.stm_lines.specs.LineClass.{LineClass, Silent, Words, line_class}
 use Rattle.stm_commands.specs.Checkpointing.{bare_checkpoint_step}
