@@ -41,3 +41,6 @@ returns-in-Err-clause-read_fault g c = λ e.
     let same : c.in-Err.fault ≡ Read = cc e in
     let part = rw same at c.in-Err.ensures.read in
     Running.read_failed _ _ _ _ _ (part.0, part.1.0) part.1.1
+
+pub returns-in-Err-clause-part : goal.returns-in-Err-clause-part
+returns-in-Err-clause-part g c = Running.none_written _ _ _
