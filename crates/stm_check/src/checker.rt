@@ -7,7 +7,7 @@ use stm_store::Names;
 /// A check of trees: where its memory comes from, and where it looks names up, which are the declared variables, the text
 /// that names are spans of, and the locals in scope.
 #[derive(Drop)]
-pub(crate) struct Checker<'a> {
+pub struct Checker<'a> {
     pub alloc: Global,
     pub known: &'a Names,
     pub text: &'a str,

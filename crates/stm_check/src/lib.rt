@@ -12,14 +12,14 @@
 
 mod actions;
 pub mod check_block;
-mod checker;
+pub mod checker;
 mod expressions;
 pub mod fault;
 pub mod laws;
-mod scope;
+pub mod scope;
 pub mod typed;
-mod types;
-mod uses;
+pub mod types;
+pub mod uses;
 
 pub use check_block::check;
 pub use fault::TypeFault;

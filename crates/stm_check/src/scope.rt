@@ -9,7 +9,7 @@ use stm_terms::kinds::Ty;
 /// The locals, innermost first: each with its name, its type, its number, which counts from the outermost, and the bits of
 /// the names from it outwards. Most names of variables have none of these bits, and so are looked up without a walk.
 #[derive(Drop)]
-pub(crate) enum Scope<'a> {
+pub enum Scope<'a> {
     Empty,
     Local {
         name: &'a str,
@@ -21,7 +21,7 @@ pub(crate) enum Scope<'a> {
 }
 
 /// How many locals there are.
-pub(crate) fn count(locals: &Scope) -> u32
+pub fn count(locals: &Scope) -> u32
     requires kept { ScopeIsConsistent locals.now }
     requires room { length (scope locals.now) < 2 ^ 32 }
     ensures { result ≡ length (scope locals.now) }
@@ -56,7 +56,7 @@ fn bits(locals: &Scope) -> u64
 }
 
 /// The bits of the locals and of one more name.
-pub(crate) fn bits_with(locals: &Scope, name: &str) -> u64
+pub fn bits_with(locals: &Scope, name: &str) -> u64
     requires { ScopeIsConsistent locals.now }
     ensures { HasBits result (name.now ∷ names_of (scope locals.now)) }
 {
@@ -97,7 +97,7 @@ fn walk(locals: &Scope, name: &str) -> Option<(u32, Ty)>
 }
 
 /// The innermost local of a name: its number, counted from the outermost, and its type.
-pub(crate) fn find_local(locals: &Scope, name: &str) -> Option<(u32, Ty)>
+pub fn find_local(locals: &Scope, name: &str) -> Option<(u32, Ty)>
     requires kept { ScopeIsConsistent locals.now }
     requires shallow { ScopeHasFewRefs (scope locals.now) }
     ensures found { result ≡ innermost name.now (scope locals.now) }

@@ -71,7 +71,7 @@ impl Model for Typed {
 
 impl Typed {
     /// A block that has been checked.
-    pub(crate) fn of_checked(
+    pub fn of_checked(
         action: Action,
         text: String,
         result_type: Option<Ty>,

@@ -8,22 +8,22 @@ ghost use Rattle.stm_check.specs.CheckFunction.{wanted, given, as_wanted};
 use stm_terms::expr::Op;
 use stm_terms::kinds::{Base, Ty};
 
-pub(crate) const INT: Ty = Ty {
+pub const INT: Ty = Ty {
     base: Base::Int,
     refs: 0,
 };
 
-pub(crate) const BOOL: Ty = Ty {
+pub const BOOL: Ty = Ty {
     base: Base::Bool,
     refs: 0,
 };
 
-pub(crate) const UNIT: Ty = Ty {
+pub const UNIT: Ty = Ty {
     base: Base::Unit,
     refs: 0,
 };
 
-pub(crate) fn same(t: Ty, u: Ty) -> bool
+pub fn same(t: Ty, u: Ty) -> bool
     ensures { result ≡ same_ty t u }
 {
     let bases = match (t.base, u.base) {
@@ -36,7 +36,7 @@ pub(crate) fn same(t: Ty, u: Ty) -> bool
 }
 
 /// The type of references to cells of a type.
-pub(crate) fn reference_to(t: Ty) -> Ty
+pub fn reference_to(t: Ty) -> Ty
     requires { t.refs ≤ most_refs }
     ensures { result ≡ var_ty t }
 {
@@ -47,7 +47,7 @@ pub(crate) fn reference_to(t: Ty) -> Ty
 }
 
 /// The type of the cells that references of a type stand for.
-pub(crate) fn inside(t: Ty) -> Option<Ty>
+pub fn inside(t: Ty) -> Option<Ty>
     ensures { result ≡ deref_ty t }
 {
     if t.refs == 0 {
@@ -61,7 +61,7 @@ pub(crate) fn inside(t: Ty) -> Option<Ty>
 }
 
 /// The type that both operands must have, if that is fixed.
-pub(crate) fn wanted(op: Op) -> Option<Ty>
+pub fn wanted(op: Op) -> Option<Ty>
     ensures { result ≡ wanted op }
 {
     match op {
@@ -72,7 +72,7 @@ pub(crate) fn wanted(op: Op) -> Option<Ty>
 }
 
 /// The type of what an operator gives.
-pub(crate) fn given(op: Op) -> Ty
+pub fn given(op: Op) -> Ty
     ensures { result ≡ given op }
 {
     match op {
@@ -82,7 +82,7 @@ pub(crate) fn given(op: Op) -> Ty
 }
 
 /// Whether a type is the one that is wanted, if one is.
-pub(crate) fn as_wanted(wanted: Option<Ty>, t: Ty) -> bool
+pub fn as_wanted(wanted: Option<Ty>, t: Ty) -> bool
     ensures { result ≡ as_wanted wanted t }
 {
     match wanted {
@@ -92,7 +92,7 @@ pub(crate) fn as_wanted(wanted: Option<Ty>, t: Ty) -> bool
 }
 
 /// What two branches have in common, or an action and its handler, with none for any type.
-pub(crate) fn join(first: Option<Ty>, second: Option<Ty>) -> Option<Option<Ty>>
+pub fn join(first: Option<Ty>, second: Option<Ty>) -> Option<Option<Ty>>
     ensures { option_map result_type result
         ≡ join_types (result_type first) (result_type second) }
 {

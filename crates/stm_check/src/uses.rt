@@ -18,7 +18,7 @@ fn kind_in(uses: &[(u32, Ty)], id: u32) -> Option<Ty>
 }
 
 /// Adds a variable after those that were named before it, unless it is one of them.
-pub(crate) fn record_use(
+pub fn record_use(
     uses: &mut Vec<(u32, Ty)>,
     id: u32,
     kind: Ty,

@@ -2,5 +2,6 @@ mod CompiledTexts
 mod DeclaredTexts
 pub mod LaterNames
 mod OneAnswer
+pub mod OnePass
 pub mod PreparedBlocks
 pub mod UsesAreCovered

@@ -8,6 +8,7 @@ ghost use Rattle.stm_source.specs.declared.refusal.Refusal.{Refusal};
 use crate::refusal::Refusal;
 use std::alloc::Global;
 use stm_check::{SharedBlock, TypeFault, Typed, check};
+use stm_one_pass::block_in_one_pass;
 use stm_parse::{ParseFault, parse_block};
 use stm_store::{DeclareError, Names};
 use stm_terms::NoMemory;
@@ -20,6 +21,10 @@ pub fn compile_block(alloc: Global, known: &Names, text: &str) -> Result<Typed, 
     ensures block { CompilesTo result (compiled_block known.now text.now) }
     ensures covered { IfOk result (UsesAreNamed known.now) }
 {
+    // A text that is refused, or lacks memory, goes by the parser and the check, which say why.
+    if let Some(block) = block_in_one_pass(alloc, known, text) {
+        return Ok(block);
+    }
     let raw = parse_block(alloc, text)?;
     let block = check(alloc, known, raw)?;
     Ok(block)

@@ -1,7 +1,15 @@
 use Rattle.std.proofs.Common.{rules}
 use Rattle.stm_source.proofs.CompiledTexts.{typed_block, mistyped_block, block_uses}
 use Rattle.stm_source.proofs.UsesAreCovered.{named_cover}
+use Rattle.stm_source.proofs.OnePass.{one_pass_compiles}
 use Rattle.stm_source.proofs.block.compile_block.Goals as goal
+
+pub returns-in-Some-clause-block : goal.returns-in-Some-clause-block
+returns-in-Some-clause-block c = one_pass_compiles c.args.known.now c.args.text.now c.in-Some.block c.in-Some.ensures.block c.in-Some.ensures.uses c.in-Some.ensures.text
+
+pub returns-in-Some-clause-covered : goal.returns-in-Some-clause-covered
+returns-in-Some-clause-covered c = λ cells k.
+    named_cover c.args.known.now c.in-Some.block.tree c.in-Some.block.uses cells c.in-Some.ensures.uses k
 
 pub returns-clause-block : goal.returns-clause-block
 returns-clause-block c =

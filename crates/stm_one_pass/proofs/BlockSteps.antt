@@ -1,0 +1,28 @@
+-- A tree that was read of all tokens is a block's.
+use Rattle.std.proofs.Common.{ℕ, ◌≤◌, ◌^◌, List, arith}
+use Rattle.stm_terms.specs.Ast.{Act}
+use Rattle.stm_terms.specs.ParsedAst.{actions}
+use Rattle.stm_terms.specs.Typing.{ActionType, makes}
+use Rattle.stm_parse.specs.declared.token.Lexeme.{Lexeme}
+use Rattle.stm_parse.specs.Grammar.{IsBlock}
+use Rattle.stm_parse.specs.NameTokens.{NamesOf}
+use Rattle.stm_parse.specs.ParseResult.{LexesWithinLimits}
+use Rattle.stm_parse.specs.Descent.{block_reader}
+use Rattle.stm_parse.proofs.CallsExact.{ok_block}
+use Rattle.stm_parse.proofs.TreeNamesAndSize.{kept_block}
+use Rattle.stm_parse.proofs.FaultReported.{text_of}
+use Rattle.stm_parse.proofs.WholeTextRead.{good_block}
+use Rattle.stm_check.proofs.TypedBlockInvariant.{kept_small}
+use Rattle.stm_store.specs.Naming.{Named}
+use Rattle.stm_one_pass.specs.OnePass.{ReadsTree, ReadsBlock}
+
+-- so it is the tree of the text
+pub tree_of_block : (known : List Named) (text : List ℕ) (ls : List Lexeme) (x : Act) (r : ActionType) → LexesWithinLimits text ls → ReadsTree known text ls x r → ReadsBlock known text x r
+tree_of_block known text ls x r f h = record { tree = h.tree; read = ok_block text ls f h.tree h.read; found = h.found }
+
+-- it makes few variables, since it has few tokens
+pub few_makes : (known : List Named) (text : List ℕ) (ls : List Lexeme) (x : Act) (r : ActionType) → LexesWithinLimits text ls → NamesOf text ls → ReadsTree known text ls x r → makes x ≤ 2 ^ 32
+few_makes known text ls x r f n h =
+    let k = kept_block text ls h.tree (text_of block_reader IsBlock good_block text ls f h.tree h.read) n f.2 in
+    let m : makes x ≤ actions h.tree = kept_small known text h.tree x r h.found in
+    omega (arith, k.2, m)

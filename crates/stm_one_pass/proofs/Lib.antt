@@ -1,0 +1,3 @@
+pub mod ActionSteps
+pub mod BlockSteps
+pub mod ExpressionSteps

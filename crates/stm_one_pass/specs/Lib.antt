@@ -1,0 +1,3 @@
+-- What was read in one pass.
+pub mod Bounds
+pub mod OnePass
