@@ -221,9 +221,9 @@ impl Names {
         requires fresh { number_named name.now self.now ≡ None }
         requires above { NumbersAreBelow number self.now }
         requires held { MayHaveType self.now kind }
-        ensures ok { OnOk result (self.new ≡ self.old
+        ensures done { OnOk result (self.new ≡ self.old
             ++ record { name = name.now; number = number; kind = kind } ∷ []) }
-        ensures err { OnErr result (self.new ≡ self.old) }
+        ensures unchanged { OnErr result (self.new ≡ self.old) }
     {
         let key = String::from_str(*self.entries.allocator(), name)?;
         let Ok(_before) = self.entries.insert(key, (number, kind)) else {

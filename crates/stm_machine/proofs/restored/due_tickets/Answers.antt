@@ -10,6 +10,6 @@ loop-block-preserved c =
     elim c.if-is_due.branch [
       | then-is_due+in_ok-make_room w ↦
           due_next c.args.blocks.now _ _ c.block-item.result c.loop-block.pending.entries _ split (sym c.is_due.ensures ∙ w.if-is_due.true)
-          (ap (λ q. q.entries) (w.pending-is ∙ w.add.ensures) ∙ ap (λ q. with_ticket c.block-item.result.ticket q.entries) w.in_ok-make_room.ensures.ok) c.loop-block.invariant
+          (ap (λ q. q.entries) (w.pending-is ∙ w.add.ensures) ∙ ap (λ q. with_ticket c.block-item.result.ticket q.entries) w.in_ok-make_room.ensures.done) c.loop-block.invariant
       | else-is_due w ↦ due_passed c.args.blocks.now _ _ c.block-item.result c.loop-block.pending.entries _ split (sym c.is_due.ensures ∙ w.if-is_due.false) (ap (λ q. q.entries) w.pending-is) c.loop-block.invariant
     ]

@@ -27,4 +27,4 @@ returns c =
     let all : take (c.len.result - 1 + 1) c.args.table.now ≡ c.args.table.now = take_all _ _ (omega arith) in
     on_ok_weaker c.add.result (λ is.
     is ∙ ap (λ (ns : List Named). ns ++ record { name = c.name.result.now; number = c.len.result - 1; kind = c.kind.result } ∷ []) others
-    ∙ names_next c.args.table.now (c.len.result - 1) c.name.result.now c.kind.result e ∙ ap named_in_table all) c.add.ensures.ok
+    ∙ names_next c.args.table.now (c.len.result - 1) c.name.result.now c.kind.result e ∙ ap named_in_table all) c.add.ensures.done

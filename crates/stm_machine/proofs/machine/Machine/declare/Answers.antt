@@ -26,5 +26,5 @@ returns-clause-moved c = λ z h.
     let s = c.requires.may.0 in
     let k = subst (λ (m : Parts). IsAt m s) (sym c.self.view_is) c.requires.may.1 in
     let l = subst (λ (m : Parts). IsAt m z) (sym c.self.view_is) h in
-    rw (c.install-applied.ensures.cells, c.in_ok-ready.ensures, c.in_ok-add.ensures.ok, c.len-number.ensures.len)
+    rw (c.install-applied.ensures.cells, c.in_ok-ready.ensures, c.in_ok-add.ensures.done, c.len-number.ensures.len)
     (moves_declare _ s z c.args.name.now c.args.kind c.args.value k c.requires.name c.requires.may.2 l)

@@ -15,8 +15,8 @@ invariant_of-self-2 c =
     let is = ap (map named_of) c.in-Ok.ensures.entries ∙ inserted es c.in_ok-key.key (c.args.number, c.args.kind) key_fresh in
     rw (is, key_is) (known-added (map named_of es) (record { name = c.args.name.now; number = c.args.number; kind = c.args.kind }) c.self.invariant c.requires.name fresh above held)
 
-pub returns-clause-ok : goal.returns-clause-ok
-returns-clause-ok c =
+pub returns-clause-done : goal.returns-clause-done
+returns-clause-done c =
     let es = c.self.inside.entries.entries in
     let key_is : string_bytes c.in_ok-key.key ≡ c.args.name.now = search rules in
     let fresh : number_named (string_bytes c.in_ok-key.key) (map named_of es) ≡ None = rw (key_is, c.self.view_is) c.requires.fresh in

@@ -21,5 +21,5 @@ add-requires-clause-held c =
 pub loop-id-preserved : goal.loop-id-preserved
 loop-id-preserved c =
     let e = entry_at c.args.table.now c.loop-id.id c.name.result.now c.kind.result c.name.ensures c.kind.ensures in
-    c.in_ok-add.ensures.ok ∙ ap (λ (ns : List Named). ns ++ record { name = c.name.result.now; number = c.loop-id.id; kind = c.kind.result } ∷ []) c.loop-id.invariant
+    c.in_ok-add.ensures.done ∙ ap (λ (ns : List Named). ns ++ record { name = c.name.result.now; number = c.loop-id.id; kind = c.kind.result } ∷ []) c.loop-id.invariant
     ∙ names_next c.args.table.now c.loop-id.id c.name.result.now c.kind.result e
