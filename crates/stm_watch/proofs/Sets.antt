@@ -46,6 +46,23 @@ pub watches_holds : (table : Table) (vs : List ℕ) (t : ℕ) → watches (set.f
 watches_holds table [] t = refl
 watches_holds table (v ∷ vs) t = ap₂ (λ a b. a || b) (has_holds table v t) (watches_holds table vs t)
 
+one_more_bool : (a b : Bool) → a ≡ b → a ≡ (b || false)
+one_more_bool a true e = e
+one_more_bool a false e = e
+
+-- of one variable
+pub watches_one : (table : Table) (v t : ℕ) → holds table v t ≡ watches (set.from_list (pairs_of table)) (v ∷ []) t
+watches_one table v t = one_more_bool (holds table v t) (has_pair (set.from_list (pairs_of table)) v t) (sym (has_holds table v t))
+
+less_one_bool : (a b k : Bool) → a ≡ b → (a && not k) ≡ (b && not (k || false))
+less_one_bool a b true e = ap (λ x. x && false) e
+less_one_bool a b false e = ap (λ x. x && true) e
+
+pub without_one : (table : Table) (variable v t : ℕ)
+    → (holds table v t && not (nat_eq v variable)) ≡ (has_pair (set.from_list (pairs_of table)) v t && not (list_any (nat_eq v) (variable ∷ [])))
+without_one table variable v t =
+    less_one_bool (holds table v t) (has_pair (set.from_list (pairs_of table)) v t) (nat_eq v variable) (sym (has_holds table v t))
+
 pub same_holds : (one other : Table) → ((v t : ℕ) → holds one v t ≡ holds other v t) → set.from_list {R = pair_cmp} (pairs_of one) ≡ set.from_list (pairs_of other)
 same_holds one other h = same_pairs (set.from_list (pairs_of one)) (set.from_list (pairs_of other)) (λ v t. has_holds one v t ∙ h v t ∙ sym (has_holds other v t))
 
@@ -60,6 +77,12 @@ pub only_read : (reads : List (ℕ × Value)) (d : ℕ × Value) (ticket v t : �
 only_read [] d ticket v t l m = absurd (omega arith)
 only_read (r ∷ []) d ticket v t l m = only_bools (nat_eq v r.0) (nat_eq t ticket)
 only_read (r ∷ s ∷ rs) d ticket v t l m = absurd (omega arith)
+
+-- ---- a list of one variable
+pub only_one : (vs : List ℕ) (d : ℕ) → 1 ≤ length vs → length vs < 2 → get_or vs 0 d ∷ [] ≡ vs
+only_one [] d l m = absurd (omega arith)
+only_one (v ∷ []) d l m = refl
+only_one (v ∷ w ∷ vs) d l m = absurd (omega arith)
 
 -- ---- the pairs of a ticket, some of which the set has: fresh is whether it lacks the variable's
 at_ticket : (table : Table) (v t ticket : ℕ) → nat_eq t ticket ≡ true → holds table v t ≡ holds table v ticket

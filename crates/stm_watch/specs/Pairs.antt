@@ -2,6 +2,7 @@
 use Rattle.std.specs.Prelude.{◌≡◌, ℕ, Bool, ◌&&◌, ◌||◌, not, nat_eq, List}
 use Rattle.std.specs.FinSet as set
 use Rattle.std.specs.List.{list_any}
+use Rattle.std.specs.List.Sorted.{IsStrictlyIncreasing}
 use Rattle.std.specs.Ordering.{nat_cmp, ordering_then}
 use Rattle.std.specs.declared.cmp.Ordering.{Ordering}
 use Rattle.stm_terms.specs.declared.values.Value.{Value}
@@ -41,3 +42,9 @@ WithoutVariables old variables new = (v t : ℕ) → has_pair new v t ≡ (has_p
 -- the ticket watches some of these variables
 abbrev pub watches : Pairs → List ℕ → ℕ → Bool
 watches pairs variables t = list_any (λ v. has_pair pairs v t) variables
+
+-- these are the tickets that watch some of these variables, in ascending order, each once
+pub record AreWatchers (pairs : Pairs) (variables tickets : List ℕ) : Type 0 where
+  pub rising : IsStrictlyIncreasing tickets
+  -- a ticket is among them if it watches some of the variables, and no other ticket is
+  pub watchers : (t : ℕ) → list_any (nat_eq t) tickets ≡ watches pairs variables t

@@ -1,10 +1,8 @@
 //! The index from variables to the tickets that watch them.
 
-ghost use Rattle.std.specs.Prelude.{◌≡◌, ℕ, ◌&&◌, not, nat_eq, IfOk, OnOk, OnErr};
+ghost use Rattle.std.specs.Prelude.{◌≡◌, ◌∷◌, [], IfOk, OnOk, OnErr};
 ghost use Rattle.std.specs.FinSet as set;
-ghost use Rattle.std.specs.List.{list_any};
-ghost use Rattle.std.specs.List.Sorted.{IsStrictlyIncreasing};
-ghost use Rattle.stm_watch.specs.Pairs.{has_pair, WithReads, WithoutReads, WithoutVariables, watches};
+ghost use Rattle.stm_watch.specs.Pairs.{WithReads, WithoutReads, WithoutVariables, AreWatchers};
 
 use crate::pairs::{
     add_all, add_pair, clear_all, push_watchers, push_watchers_of, remove_all, remove_reads,
@@ -52,8 +50,8 @@ impl Watch {
 
     /// The ticket watches each variable read. Pairs that are there already stay.
     pub fn add(&mut self, ticket: u32, reads: &[(u32, Value)]) -> Result<(), NoMemory>
-        ensures ok { OnOk result (WithReads self.old ticket reads.now self.new) }
-        ensures err { OnErr result (self.new ≡ self.old) }
+        ensures done { OnOk result (WithReads self.old ticket reads.now self.new) }
+        ensures unchanged { OnErr result (self.new ≡ self.old) }
     {
         match reads {
             [(variable, _)] => add_pair(&mut self.table, self.alloc, *variable, ticket),
@@ -85,9 +83,7 @@ impl Watch {
 
     /// The tickets that watch any of these variables, in ascending order, each once.
     pub fn watchers(&self, variables: &[u32]) -> Result<Vec<u32>, NoMemory>
-        ensures rising { IfOk result (λ ts. IsStrictlyIncreasing ts.items) }
-        ensures watchers { IfOk result (λ ts. (t : ℕ) →
-            list_any (nat_eq t) ts.items ≡ watches self.now variables.now t) }
+        ensures { IfOk result (λ ts. AreWatchers self.now variables.now ts.items) }
     {
         match variables {
             [variable] => self.watchers_of(*variable),
@@ -97,9 +93,7 @@ impl Watch {
 
     /// The tickets that watch one variable, which are kept in ascending order.
     fn watchers_of(&self, variable: u32) -> Result<Vec<u32>, NoMemory>
-        ensures rising { IfOk result (λ ts. IsStrictlyIncreasing ts.items) }
-        ensures watchers { IfOk result (λ ts. (t : ℕ) →
-            list_any (nat_eq t) ts.items ≡ has_pair self.now variable t) }
+        ensures { IfOk result (λ ts. AreWatchers self.now (variable ∷ []) ts.items) }
     {
         let mut tickets = Vec::new(self.alloc);
         push_watchers_of(&self.table, variable, &mut tickets)?;
@@ -108,9 +102,7 @@ impl Watch {
 
     /// The tickets that watch any of these variables, however many there are.
     fn watchers_of_several(&self, variables: &[u32]) -> Result<Vec<u32>, NoMemory>
-        ensures rising { IfOk result (λ ts. IsStrictlyIncreasing ts.items) }
-        ensures watchers { IfOk result (λ ts. (t : ℕ) →
-            list_any (nat_eq t) ts.items ≡ watches self.now variables.now t) }
+        ensures { IfOk result (λ ts. AreWatchers self.now variables.now ts.items) }
     {
         let mut tickets = Vec::new(self.alloc);
         push_watchers(&self.table, variables, &mut tickets)?;
@@ -122,11 +114,9 @@ impl Watch {
     /// Removes all pairs of these variables. Returns the tickets that watched any of them, in ascending order, each once. Those of a
     /// single variable are moved and not copied.
     pub fn take(&mut self, variables: &[u32]) -> Result<Vec<u32>, NoMemory>
-        ensures rising { IfOk result (λ ts. IsStrictlyIncreasing ts.items) }
-        ensures watchers { IfOk result (λ ts. (t : ℕ) →
-            list_any (nat_eq t) ts.items ≡ watches self.old variables.now t) }
-        ensures gone { OnOk result (WithoutVariables self.old variables.now self.new) }
-        ensures err { OnErr result (self.new ≡ self.old) }
+        ensures done { IfOk result (λ ts. AreWatchers self.old variables.now ts.items
+            × WithoutVariables self.old variables.now self.new) }
+        ensures unchanged { OnErr result (self.new ≡ self.old) }
     {
         match variables {
             [variable] => self.take_of(*variable),
@@ -136,12 +126,9 @@ impl Watch {
 
     /// Removes all pairs of one variable, and returns the tickets that watched it.
     fn take_of(&mut self, variable: u32) -> Result<Vec<u32>, NoMemory>
-        ensures rising { IfOk result (λ ts. IsStrictlyIncreasing ts.items) }
-        ensures watchers { IfOk result (λ ts. (t : ℕ) →
-            list_any (nat_eq t) ts.items ≡ has_pair self.old variable t) }
-        ensures gone { OnOk result ((v t : ℕ) →
-            has_pair self.new v t ≡ (has_pair self.old v t && not (nat_eq v variable))) }
-        ensures err { OnErr result (self.new ≡ self.old) }
+        ensures done { IfOk result (λ ts. AreWatchers self.old (variable ∷ []) ts.items
+            × WithoutVariables self.old (variable ∷ []) self.new) }
+        ensures unchanged { OnErr result (self.new ≡ self.old) }
     {
         let room = Vec::with_capacity(self.alloc, 1)?;
         Ok(take_pairs(&mut self.table, variable).into_vec(room))
@@ -149,11 +136,9 @@ impl Watch {
 
     /// Removes all pairs of these variables, however many there are, and returns the tickets that watched any.
     fn take_of_several(&mut self, variables: &[u32]) -> Result<Vec<u32>, NoMemory>
-        ensures rising { IfOk result (λ ts. IsStrictlyIncreasing ts.items) }
-        ensures watchers { IfOk result (λ ts. (t : ℕ) →
-            list_any (nat_eq t) ts.items ≡ watches self.old variables.now t) }
-        ensures gone { OnOk result (WithoutVariables self.old variables.now self.new) }
-        ensures err { OnErr result (self.new ≡ self.old) }
+        ensures done { IfOk result (λ ts. AreWatchers self.old variables.now ts.items
+            × WithoutVariables self.old variables.now self.new) }
+        ensures unchanged { OnErr result (self.new ≡ self.old) }
     {
         let tickets = self.watchers_of_several(variables)?;
         clear_all(&mut self.table, variables);

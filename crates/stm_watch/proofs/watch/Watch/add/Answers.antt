@@ -6,8 +6,8 @@ use Rattle.stm_watch.specs.Tabled.{holds}
 use Rattle.stm_watch.proofs.Sets.{has_holds, same_holds, only_read}
 use Rattle.stm_watch.proofs.watch.Watch.add.Goals as goal
 
-pub returns-in-len1-clause-ok : goal.returns-in-len1-clause-ok
-returns-in-len1-clause-ok c =
+pub returns-in-len1-clause-done : goal.returns-in-len1-clause-done
+returns-in-len1-clause-done c =
     let old = c.self.inside.table in
     on_ok_weaker c.add_pair.result
     (λ added v t.
@@ -16,6 +16,6 @@ returns-in-len1-clause-ok c =
     ∙ rw (← c.self.view_is) (ap (λ b. b || is_pair_of c.args.ticket c.args.reads.now v t) (sym (has_holds old v t))))
     c.add_pair.ensures.ok
 
-pub returns-in-len1-clause-err : goal.returns-in-len1-clause-err
-returns-in-len1-clause-err c =
+pub returns-in-len1-clause-unchanged : goal.returns-in-len1-clause-unchanged
+returns-in-len1-clause-unchanged c =
     on_err_weaker c.add_pair.result (λ same. rw (← c.self.view_is) (same_holds c.add_pair.new.table c.self.inside.table same)) c.add_pair.ensures.err

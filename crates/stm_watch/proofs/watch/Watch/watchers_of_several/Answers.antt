@@ -7,15 +7,14 @@ use Rattle.std.proofs.lemmas.Map.Keys.{IsStrictlyIncreasing-dedup}
 use Rattle.stm_watch.proofs.Sets.{any_dedup, watches_holds}
 use Rattle.stm_watch.proofs.watch.Watch.watchers_of_several.Goals as goal
 
-pub returns-clause-rising : goal.returns-clause-rising
-returns-clause-rising c =
+pub returns : goal.returns
+returns c =
     let is = dedup_is _ _ _ c.dedup.ensures.filtered in
-    rw is (IsStrictlyIncreasing-dedup _ c.sort_unstable.ensures.sorted)
-
-pub returns-clause-watchers : goal.returns-clause-watchers
-returns-clause-watchers c = λ t.
-    let is = dedup_is _ _ _ c.dedup.ensures.filtered in
-    ap (list_any (nat_eq t)) is ∙ any_dedup c.sort_unstable.new.self.items t
-    ∙ sym (list_any-IsPermutation (nat_eq t) _ _ c.sort_unstable.ensures.permutation)
-    ∙ c.in_ok-push_watchers.ensures t
-    ∙ rw (c.new-tickets.ensures.items, ← c.self.view_is) (sym (watches_holds c.self.inside.table c.args.variables.now t))
+    record {
+      rising = rw is (IsStrictlyIncreasing-dedup _ c.sort_unstable.ensures.sorted);
+      watchers = λ t.
+          ap (list_any (nat_eq t)) is ∙ any_dedup c.sort_unstable.new.self.items t
+          ∙ sym (list_any-IsPermutation (nat_eq t) _ _ c.sort_unstable.ensures.permutation)
+          ∙ c.in_ok-push_watchers.ensures t
+          ∙ rw (c.new-tickets.ensures.items, ← c.self.view_is) (sym (watches_holds c.self.inside.table c.args.variables.now t));
+    }
