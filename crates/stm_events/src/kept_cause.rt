@@ -66,9 +66,9 @@ impl CauseTable {
 
     /// The block of a ticket gets a cause, in place of the one that it had.
     pub fn set(&mut self, ticket: u32, cause: KeptCause) -> Result<(), NoMemory>
-        ensures ok { OnOk result ((t : ℕ) → kept_cause_of t self.new
+        ensures done { OnOk result ((t : ℕ) → kept_cause_of t self.new
             ≡ if nat_eq ticket t then Some cause else kept_cause_of t self.old) }
-        ensures err { OnErr result (self.new ≡ self.old) }
+        ensures unchanged { OnErr result (self.new ≡ self.old) }
     {
         let Ok(_before) = self.causes.insert(ticket, cause) else {
             return Err(NoMemory);

@@ -73,8 +73,8 @@ impl LabelTable {
 
     /// The ticket gets a label, in place of the one that it had; an empty one takes it away.
     pub fn set(&mut self, ticket: u32, label: SharedName) -> Result<(), NoMemory>
-        ensures ok { OnOk result (AreSameLabels self.new (labelled ticket label self.old)) }
-        ensures err { OnErr result (self.new ≡ self.old) }
+        ensures done { OnOk result (AreSameLabels self.new (labelled ticket label self.old)) }
+        ensures unchanged { OnErr result (self.new ≡ self.old) }
     {
         if label.as_str().is_empty() {
             self.remove(ticket);

@@ -117,9 +117,9 @@ impl WaitingBlocks {
     /// One block more, after the others.
     pub fn insert(&mut self, ticket: u32, block: SharedBlock) -> Result<(), NoMemory>
         requires { AllBelow ticket self.old }
-        ensures ok { OnOk result (self.new
+        ensures done { OnOk result (self.new
             ≡ self.old ++ (ticket, record { block = block; held = None }) ∷ []) }
-        ensures err { OnErr result (self.new ≡ self.old) }
+        ensures unchanged { OnErr result (self.new ≡ self.old) }
     {
         self.table.make_room(&self.slots, ticket)?;
         let waiting = Waiting { block, held: None };

@@ -9,4 +9,4 @@ loop-block-preserved c =
     let b = c.block-item.result in
     let more = next_at c.args.blocks.now i b (search rules) c.block-item.is in
     let r = c.requires in
-    one_block_more r.0 r.1 (i + 1) c.args.blocks.now (take i c.args.blocks.now) b _ c.loop-block.labels _ r.2 more c.in-Ok.ensures.ok c.in_ok-label.ensures c.loop-block.invariant
+    one_block_more r.0 r.1 (i + 1) c.args.blocks.now (take i c.args.blocks.now) b _ c.loop-block.labels _ r.2 more c.in-Ok.ensures.done c.in_ok-label.ensures c.loop-block.invariant

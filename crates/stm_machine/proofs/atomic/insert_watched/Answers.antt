@@ -7,5 +7,5 @@ pub returns-in-Err : goal.returns-in-Err
 returns-in-Err c = record {
   inserted = tt;
   watched = tt;
-  err = (c.remove.ensures.gone ∙ ap (lose c.args.ticket) c.in_ok-insert.ensures.ok ∙ last_lost c.args.ticket _ c.args.waiting.now c.requires, c.in-Err.ensures.unchanged);
+  err = (c.remove.ensures.gone ∙ ap (lose c.args.ticket) c.in_ok-insert.ensures.done ∙ last_lost c.args.ticket _ c.args.waiting.now c.requires, c.in-Err.ensures.unchanged);
 }

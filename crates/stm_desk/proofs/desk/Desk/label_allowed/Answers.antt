@@ -19,7 +19,7 @@ label-requires-clause-may c =
 pub invariant_of-self-2 : goal.invariant_of-self-2
 invariant_of-self-2 c =
     let r = room_of c.self.view_is c.requires.room in
-    let same = subst (λ (l : List ℕ). AreSameLabels c.set.new.self (labelled c.args.ticket l c.self.inside.labels)) (c.in_ok-kept.ensures ∙ c.in_ok-shared.ensures) c.in_ok-set.ensures.ok in
+    let same = subst (λ (l : List ℕ). AreSameLabels c.set.new.self (labelled c.args.ticket l c.self.inside.labels)) (c.in_ok-kept.ensures ∙ c.in_ok-shared.ensures) c.in_ok-set.ensures.done in
     rw (c.push_reserved.ensures.items, c.in_ok-reserve.ensures.items, c.in_ok-shared.ensures) (
       kept_move _ _ _ _ _ c.self.invariant.0 c.args.client (Labelled c.args.ticket c.args.label.now) _ c.requires.client r tt c.label.ensures,
       label_comes _ _ _ c.self.invariant.1 c.args.client c.args.ticket c.args.label.now c.set.new.self same c.requires.label,

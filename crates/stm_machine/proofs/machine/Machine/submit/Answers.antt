@@ -27,11 +27,11 @@ returns-clause-moved c = λ z h.
     let s = c.requires.0 in
     let k = subst (λ (m : Parts). IsAt m s) (sym c.self.view_is) c.requires.1 in
     let l = subst (λ (m : Parts). IsAt m z) (sym c.self.view_is) h in
-    rw (c.in_ok-insert.ensures.ok, c.add.ensures, c.in_ok-make_room.ensures.done) (moves_submit _ s z c.args.block k c.requires.3 l)
+    rw (c.in_ok-insert.ensures.done, c.add.ensures, c.in_ok-make_room.ensures.done) (moves_submit _ s z c.args.block k c.requires.3 l)
 
 pub invariant_of-self-2 : goal.invariant_of-self-2
 invariant_of-self-2 c =
     let s = c.requires.0 in
     let k = subst (λ (m : Parts). IsAt m s) (sym c.self.view_is) c.requires.1 in
-    rw (c.in_ok-insert.ensures.ok, c.add.ensures, c.in_ok-make_room.ensures.done)
+    rw (c.in_ok-insert.ensures.done, c.add.ensures, c.in_ok-make_room.ensures.done)
     (ready_wait c.self.inside.next c.args.block _ c.self.inside.waiting c.self.inside.pending.entries (below_next _ s k) c.self.invariant)

@@ -21,8 +21,8 @@ invariant_of-self-2 c =
     kept_added c.args.ticket c.in_ok-place.place i.count _ i.blocks i.table.places.items c.make_room.new.self.places.items c.push.new.self.places.items i.slots.items c.put.new.slots.items c.args.self.now
     c.self.view_is (rw c.deref.ensures.value at m.same) c.push.ensures m.last m.ascend m.short c.in_ok-place.ensures.others c.in_ok-place.ensures.held c.self.invariant
 
-pub returns-clause-ok : goal.returns-clause-ok
-returns-clause-ok c =
+pub returns-clause-done : goal.returns-clause-done
+returns-clause-done c =
     let i = c.self.inside in
     let m = c.in_ok-make_room.ensures in
     added_at c.args.ticket c.in_ok-place.place _ i.table.places.items c.make_room.new.self.places.items c.push.new.self.places.items i.slots.items c.put.new.slots.items c.args.self.now
