@@ -73,7 +73,7 @@ fn insert_current(
 impl Machine {
     /// The ticket that the next submission gets.
     pub fn next_ticket(&self) -> u32
-        ensures parts { result ≡ self.now.next }
+        ensures held { result ≡ self.now.next }
         ensures next { (s : Slow) → IsAt self.now s → result ≡ s.next }
     {
         self.next

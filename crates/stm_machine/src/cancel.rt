@@ -34,7 +34,7 @@ impl Machine {
     /// The block waits no more. It takes no memory.
     pub fn cancel(&mut self, ticket: u32)
         requires { (s : Slow) × IsAt self.old s × (cancel_refused s false ticket ≡ None) }
-        ensures moved { MovesBy (AnyWhat.Cancelled ticket) self.old self.new }
+        ensures done { MovesBy (AnyWhat.Cancelled ticket) self.old self.new }
         ensures pending { self.new.pending ≡ without_ticket ticket self.old.pending }
     {
         let _ = forget(&mut self.waiting, &mut self.watch, ticket);

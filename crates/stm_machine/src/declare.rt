@@ -77,10 +77,10 @@ impl Machine {
         requires name { IsTrue (is_name_text name.now) }
         requires may { (s : Slow) × IsAt self.old s
             × (late_declare_refused s false name.now kind value ≡ None) }
-        ensures moved { OnOk result (MovesBy (AnyWhat.Declared name.now kind value) self.old self.new) }
+        ensures done { OnOk result (MovesBy (AnyWhat.Declared name.now kind value) self.old self.new) }
         ensures number { IfOk result (λ i. i ≡ length self.old.store) }
         ensures pending { self.new.pending ≡ self.old.pending }
-        ensures err { OnErr result (self.new ≡ self.old) }
+        ensures unchanged { OnErr result (self.new ≡ self.old) }
     {
         let number = self.store.len() as u32;
         let ready = with_variable(self.alloc, &self.store, kind, value)?;

@@ -133,12 +133,12 @@ impl Machine {
         scratch: &Scratch,
     ) -> Result<SharedVerdict, NoMemory>
         requires { (s : Slow) × IsAt self.old s × MayKeep s ticket verdict scratch.now }
-        ensures moved { OnOk result
+        ensures done { OnOk result
             (MovesBy (AnyWhat.Installed ticket verdict) self.old self.new) }
         ensures verdict { IfOk result (λ v. v ≡ verdict) }
         ensures pending { OnOk result (self.new.pending
             ≡ without_ticket ticket self.old.pending) }
-        ensures err { OnErr result (self.new ≡ self.old) }
+        ensures unchanged { OnErr result (self.new ≡ self.old) }
     {
         let taken = memory_to_keep(
             self.alloc,

@@ -73,7 +73,7 @@ impl Machine {
 
     /// The present store.
     pub fn store(&self) -> &Store
-        ensures parts { result.now ≡ self.now.store }
+        ensures held { result.now ≡ self.now.store }
         ensures store { (s : Slow) → IsAt self.now s → result.now ≡ s.store }
     {
         &self.store

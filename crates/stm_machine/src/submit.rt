@@ -60,10 +60,10 @@ impl Machine {
     pub fn submit(&mut self, block: SharedBlock) -> Result<u32, NoMemory>
         requires { (s : Slow) × IsAt self.old s × HasTicketLeft s
             × (submit_refused s false block ≡ None) }
-        ensures moved { IfOk result (λ t. MovesBy (AnyWhat.Submitted t block) self.old self.new) }
+        ensures done { IfOk result (λ t. MovesBy (AnyWhat.Submitted t block) self.old self.new) }
         ensures ticket { IfOk result (λ t. t ≡ self.old.next) }
         ensures pending { IfOk result (λ t. self.new.pending ≡ with_ticket t self.old.pending) }
-        ensures err { OnErr result (self.new ≡ self.old) }
+        ensures unchanged { OnErr result (self.new ≡ self.old) }
     {
         self.pending.make_room(1)?;
         let ticket = self.next;

@@ -16,7 +16,7 @@ returns-in-Err-clause-not_allowed c = λ n s k a.
     cc
 
 pub returns-then-given-ticket-clause-done : goal.returns-then-given-ticket-clause-done
-returns-then-given-ticket-clause-done c = submit_moves c.in_ok-given.given c.args.ticket c.in_ok-block.block c.args.block.now _ _ c.in_ok-given.ensures.moved c.if-given-ticket.true c.in_ok-block.ensures
+returns-then-given-ticket-clause-done c = submit_moves c.in_ok-given.given c.args.ticket c.in_ok-block.block c.args.block.now _ _ c.in_ok-given.ensures.done c.if-given-ticket.true c.in_ok-block.ensures
 
 pub returns-else-given-ticket-clause-not_allowed : goal.returns-else-given-ticket-clause-not_allowed
-returns-else-given-ticket-clause-not_allowed c = λ n s k a. c.if-given-ticket.false ((c.in_ok-given.ensures.moved s k).0.0 ∙ sym a.0)
+returns-else-given-ticket-clause-not_allowed c = λ n s k a. c.if-given-ticket.false ((c.in_ok-given.ensures.done s k).0.0 ∙ sym a.0)

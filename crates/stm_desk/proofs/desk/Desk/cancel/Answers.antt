@@ -25,6 +25,6 @@ invariant_of-self-2 c =
     let r = room_of c.self.view_is c.in-Ok.ensures.room in
     let is : c.push_reserved.new.self.items ≡ c.self.inside.history.items ++ event c.args.client (Cancelled c.args.ticket) ∷ [] = search rules in
     subst (λ (es : List Event). DeskInvariant c.self.inside.table c.self.inside.checkpoint c.self.inside.limit es c.cancel.new.self × HasLabels c.self.inside.checkpoint es c.remove.new.self) (sym is) (
-      kept_move _ _ _ _ _ c.self.invariant.0 c.args.client (Cancelled c.args.ticket) c.cancel.new.self c.requires r tt c.cancel.ensures.moved,
+      kept_move _ _ _ _ _ c.self.invariant.0 c.args.client (Cancelled c.args.ticket) c.cancel.new.self c.requires r tt c.cancel.ensures.done,
       label_goes _ _ _ c.self.invariant.1 c.args.client (Cancelled c.args.ticket) c.args.ticket c.remove.new.self c.remove.ensures refl,
     )

@@ -19,6 +19,6 @@ pub invariant_of-self-2 : goal.invariant_of-self-2
 invariant_of-self-2 c =
     let r = room_of c.self.view_is c.requires.room in
     rw (c.push_reserved.ensures.items, c.in_ok-reserve.ensures.items, c.in_ok-shared.ensures) (
-      kept_move _ _ _ _ _ c.self.invariant.0 c.args.client (DeclaredLate c.args.name.now c.args.kind c.args.value) _ c.requires.client r tt c.in_ok-number.ensures.moved,
+      kept_move _ _ _ _ _ c.self.invariant.0 c.args.client (DeclaredLate c.args.name.now c.args.kind c.args.value) _ c.requires.client r tt c.in_ok-number.ensures.done,
       labels_stay _ _ _ c.self.invariant.1 c.args.client (DeclaredLate c.args.name.now c.args.kind c.args.value) refl,
     )

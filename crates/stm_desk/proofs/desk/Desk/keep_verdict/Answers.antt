@@ -23,6 +23,6 @@ invariant_of-self-2 c =
     let r = subst (λ (d : DeskView). is_full d ≡ false) (sym c.self.view_is) c.requires.room in
     let is : c.push_reserved.new.self.items ≡ c.self.inside.history.items ++ event c.args.client (Installed c.args.ticket c.args.verdict) ∷ [] = search rules in
     subst (λ (es : List Event). DeskInvariant c.self.inside.table c.self.inside.checkpoint c.self.inside.limit es c.keep.new.self × HasLabels c.self.inside.checkpoint es c.self.inside.labels) (sym is) (
-      kept_move _ _ _ _ _ c.self.invariant.0 c.args.client (Installed c.args.ticket c.args.verdict) c.keep.new.self c.requires.client r tt c.in_ok-verdict.ensures.moved,
+      kept_move _ _ _ _ _ c.self.invariant.0 c.args.client (Installed c.args.ticket c.args.verdict) c.keep.new.self c.requires.client r tt c.in_ok-verdict.ensures.done,
       labels_stay _ _ _ c.self.invariant.1 c.args.client (Installed c.args.ticket c.args.verdict) refl,
     )

@@ -21,7 +21,7 @@ pub invariant_of-self-2 : goal.invariant_of-self-2
 invariant_of-self-2 c =
     let r = room_of c.self.view_is c.in-Ok.ensures.room in
     rw (c.push_reserved.ensures.items, c.in_ok-reserve.ensures.items, c.in_ok-shared.ensures) (
-      kept_move _ _ _ _ _ c.self.invariant.0 c.args.client _ _ c.requires r c.say_typed.ensures c.in_ok-ticket.ensures.moved,
+      kept_move _ _ _ _ _ c.self.invariant.0 c.args.client _ _ c.requires r c.say_typed.ensures c.in_ok-ticket.ensures.done,
       labels_stay _ _ _ c.self.invariant.1 c.args.client (Submitted c.in_ok-ticket.ticket c.args.block) refl,
     )
 

@@ -33,7 +33,7 @@ invariant_of-self-2 c =
     let s = state_from (start_of c.self.inside.table c.self.inside.checkpoint) c.self.inside.history.items in
     let r = room_for 2 c.self.view_is c.requires.room in
     let moves = c.in_ok-submit_current.ensures.done s c.self.invariant.0.at in
-    rw (c.push_two.ensures, c.in_ok-reserve.ensures.items, c.in_ok-shared.ensures, c.in_ok-installed.ensures, c.next_ticket-ticket.ensures.parts, two_more) (
+    rw (c.push_two.ensures, c.in_ok-reserve.ensures.items, c.in_ok-shared.ensures, c.in_ok-installed.ensures, c.next_ticket-ticket.ensures.held, two_more) (
       kept_moves _ _ _ _ _ c.self.invariant.0 c.args.client (Submitted c.self.inside.machine.next c.args.block ∷ Installed c.self.inside.machine.next c.args.verdict ∷ []) c.submit_current.new.self
           c.requires.client (has_room _ _ 2 r) (c.say_typed.ensures, (tt, tt)) moves.0 moves.1,
       labels_stay_twice _ _ _ c.self.invariant.1 c.args.client (Submitted c.self.inside.machine.next c.args.block) (Installed c.self.inside.machine.next c.args.verdict) refl refl,

@@ -4,8 +4,8 @@ use Rattle.stm_machine.proofs.Calls.{moves_cancel}
 use Rattle.stm_machine.proofs.Ready.{ready_left, lost_none}
 use Rattle.stm_machine.proofs.machine.Machine.cancel.Goals as goal
 
-pub returns-clause-moved : goal.returns-clause-moved
-returns-clause-moved c = λ z h.
+pub returns-clause-done : goal.returns-clause-done
+returns-clause-done c = λ z h.
     let s = c.requires.0 in
     let k = subst (λ (m : Parts). IsAt m s) (sym c.self.view_is) c.requires.1 in
     let l = subst (λ (m : Parts). IsAt m z) (sym c.self.view_is) h in

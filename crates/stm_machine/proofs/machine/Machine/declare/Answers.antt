@@ -21,8 +21,8 @@ add-requires-clause-held c =
     let k = subst (λ (m : Parts). IsAt m s) (sym c.self.view_is) c.requires.may.1 in
     held_at _ s k c.args.name.now c.args.kind c.args.value c.requires.may.2
 
-pub returns-clause-moved : goal.returns-clause-moved
-returns-clause-moved c = λ z h.
+pub returns-clause-done : goal.returns-clause-done
+returns-clause-done c = λ z h.
     let s = c.requires.may.0 in
     let k = subst (λ (m : Parts). IsAt m s) (sym c.self.view_is) c.requires.may.1 in
     let l = subst (λ (m : Parts). IsAt m z) (sym c.self.view_is) h in

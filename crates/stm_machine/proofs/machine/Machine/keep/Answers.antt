@@ -5,8 +5,8 @@ use Rattle.stm_machine.proofs.Taking.{kept_waits, queued_wait}
 use Rattle.stm_machine.proofs.Ready.{due_absent, ready_held}
 use Rattle.stm_machine.proofs.machine.Machine.keep.Goals as goal
 
-pub returns-in-Ok-clause-moved : goal.returns-in-Ok-clause-moved
-returns-in-Ok-clause-moved c = λ z h.
+pub returns-in-Ok-clause-done : goal.returns-in-Ok-clause-done
+returns-in-Ok-clause-done c = λ z h.
     let s = c.requires.0 in
     let k = subst (λ (m : Parts). IsAt m s) (sym c.self.view_is) c.requires.1 in
     let l = subst (λ (m : Parts). IsAt m z) (sym c.self.view_is) h in

@@ -22,8 +22,8 @@ add-requires-clause-absent c =
     let k = subst (λ (m : Parts). IsAt m s) (sym c.self.view_is) c.requires.1 in
     rw c.in_ok-make_room.ensures.done (next_absent _ s k)
 
-pub returns-clause-moved : goal.returns-clause-moved
-returns-clause-moved c = λ z h.
+pub returns-clause-done : goal.returns-clause-done
+returns-clause-done c = λ z h.
     let s = c.requires.0 in
     let k = subst (λ (m : Parts). IsAt m s) (sym c.self.view_is) c.requires.1 in
     let l = subst (λ (m : Parts). IsAt m z) (sym c.self.view_is) h in
