@@ -19,7 +19,7 @@ use Rattle.stm_events.specs.declared.event.What.{What}
 use Rattle.stm_events.specs.declared.event.What.TheVariants.{Submitted, Installed, Finished, Cancelled, Declared as DeclaredLate, Labelled}
 use Rattle.stm_machine.specs.JobsHandedOut.{sent}
 use Rattle.stm_events.specs.Laws.{AreRising}
-use Rattle.stm_machine.specs.QueueAndIndex.{AreQueued, due_of, with_tickets}
+use Rattle.stm_machine.specs.QueueAndIndex.{ArePending, due_of, with_tickets}
 use Rattle.stm_events.specs.Refusals.{pending_left}
 use Rattle.stm_events.specs.SlowDesk.{Waiter, Slow, is_current, waking, becomes_stale, after_writes, find_waiter, without_waiter, after, Allows, MayFinish}
 use Rattle.stm_machine.proofs.Points.{not_yet, has_with_tickets, queue_push, queue_delivered, queue_gone, stale_of, queue_finished, has_stale}
@@ -28,7 +28,7 @@ use Rattle.stm_desk.specs.DeskView.{pending_after}
 
 pub record QueueKept (ws : List Waiter) (es : List Entry) : Type 0 where
   pub rising : IsRising (tickets es)
-  pub right : AreQueued es ws
+  pub right : ArePending es ws
 
 -- ---- the tickets of the list
 pub member_tickets : (t : ℕ) (es : List Entry) → member t (tickets es) ≡ has_ticket t es

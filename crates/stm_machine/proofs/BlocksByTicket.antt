@@ -17,7 +17,7 @@ use Rattle.stm_waiting.specs.Entries.{kept_at, with_held, AllBelow, held_reads}
 use Rattle.stm_machine.specs.declared.checkpoint.CheckpointBlock.{CheckpointBlock}
 use Rattle.stm_machine.specs.Checkpoints.{CheckpointView, waiter_of, checkpoint_state, since_held, store_with, IsRightDelivery, IsCheckpointBlock, AreCheckpointBlocks, IsCheckpoint}
 use Rattle.stm_machine.specs.CheckpointEntries.{TicketsAscend, entry_of, is_due_block, watches_variable, is_ready_block, has_block}
-use Rattle.stm_machine.specs.Entries.{IsHeld, AreDue, held_ends, kept_ends}
+use Rattle.stm_machine.specs.Entries.{IsHeld, AreKeptOf, held_ends, kept_ends}
 use Rattle.stm_machine.specs.Machine.{Parts, IsAt}
 use Rattle.stm_machine.specs.QueueAndIndex.{due_of, watches_of}
 use Rattle.stm_machine.specs.ReadySet.{AreReady}
@@ -162,7 +162,7 @@ held_one : (store : List Cell) (block : Block) (stale : Bool) (held : Option Hel
 held_one store block stale None d = tt
 held_one store block stale (Some h) d = d.1
 
-pub entries_due : (store : List Cell) (n k : ℕ) (bs : List CheckpointBlock) → AreCheckpointBlocks store n k bs → AreDue (map entry_of bs) (map (waiter_of store) bs)
+pub entries_due : (store : List Cell) (n k : ℕ) (bs : List CheckpointBlock) → AreCheckpointBlocks store n k bs → AreKeptOf (map entry_of bs) (map (waiter_of store) bs)
 entries_due store n k [] a = tt
 entries_due store n k (b ∷ bs) a = (
   record { ticket = refl; block = refl; held = held_one store b.waiting.block b.stale b.waiting.held a.2.delivery },
@@ -185,7 +185,7 @@ stands_at c m k rule store names next entries due watch = record {
     store_is = store;
     names_are = names;
     next_is = next;
-    entries_are = subst (λ (es : List (ℕ × Waiting)). AreDue es (map (waiter_of c.store) c.blocks)) (sym entries) (entries_due c.store c.next 0 c.blocks k.blocks);
+    entries_are = subst (λ (es : List (ℕ × Waiting)). AreKeptOf es (map (waiter_of c.store) c.blocks)) (sym entries) (entries_due c.store c.next 0 c.blocks k.blocks);
     queue = λ t. due t ∙ due_of_blocks c.store c.next t c.blocks k.blocks;
     index = λ v t. watch v t ∙ watches_of_blocks c.store c.next v t c.blocks k.blocks;
   };

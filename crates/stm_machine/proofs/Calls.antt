@@ -16,7 +16,7 @@ use Rattle.stm_terms.specs.Limits.{max_waiting}
 use Rattle.stm_events.specs.Laws.{AreRising}
 use Rattle.stm_waiting.specs.declared.waiting.Waiting.{Waiting}
 use Rattle.stm_waiting.specs.Entries.{kept_at, lose, AllBelow}
-use Rattle.stm_machine.specs.Entries.{AreDue, kept_reads}
+use Rattle.stm_machine.specs.Entries.{AreKeptOf, kept_reads}
 use Rattle.stm_machine.specs.Machine.{Parts, IsAt, HasTicketLeft}
 use Rattle.stm_machine.specs.QueueAndIndex.{due_of}
 use Rattle.stm_events.specs.Refusals.{missing, submit_first, submit_refused, label_first, label_refused, cancel_first, cancel_refused}
@@ -36,7 +36,7 @@ waits_by t x ws None p e h f = cc
 waits_by t x ws (Some y) None e h f = absurd f
 waits_by t x ws (Some y) (Some w) e h f = let q : y ≡ x = cc in record { one = w; found = e; same = subst (λ (z : Waiting). IsSame z w) q f }
 
-pub waits : (t : ℕ) (x : Waiting) (es : List (ℕ × Waiting)) (ws : List Waiter) → AreDue es ws → kept_at t es ≡ Some x → Waits t x ws
+pub waits : (t : ℕ) (x : Waiting) (es : List (ℕ × Waiting)) (ws : List Waiter) → AreKeptOf es ws → kept_at t es ≡ Some x → Waits t x ws
 waits t x es ws d e = waits_by t x ws (kept_at t es) (find_waiter t ws) refl e (found t es ws d)
 
 lost_by : (o : Option Waiting) (p : Option Waiter) → IsFound o p → o ≡ None → p ≡ None
@@ -44,7 +44,7 @@ lost_by None None f e = refl
 lost_by None (Some w) f e = absurd f
 lost_by (Some x) p f e = cc
 
-pub lost : (t : ℕ) (es : List (ℕ × Waiting)) (ws : List Waiter) → AreDue es ws → kept_at t es ≡ None → find_waiter t ws ≡ None
+pub lost : (t : ℕ) (es : List (ℕ × Waiting)) (ws : List Waiter) → AreKeptOf es ws → kept_at t es ≡ None → find_waiter t ws ≡ None
 lost t es ws d e = lost_by (kept_at t es) (find_waiter t ws) (found t es ws d) e
 
 module _ (m : Parts) (s : Slow) (k : IsAt m s) where

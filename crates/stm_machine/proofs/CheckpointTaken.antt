@@ -20,7 +20,7 @@ use Rattle.stm_waiting.specs.Entries.{kept_at, AllBelow, first_above}
 use Rattle.stm_machine.specs.declared.checkpoint.CheckpointBlock.{CheckpointBlock}
 use Rattle.stm_machine.specs.Checkpoints.{CheckpointView, held_since, block_of_waiter, checkpoint_of, labelled_block, with_labels, IsCheckpoint, max_next}
 use Rattle.stm_machine.specs.CheckpointEntries.{EntriesRise, block_of}
-use Rattle.stm_machine.specs.Entries.{IsHeld, IsDue, AreDue}
+use Rattle.stm_machine.specs.Entries.{IsHeld, IsKeptOf, AreKeptOf}
 use Rattle.stm_machine.specs.Machine.{Parts, IsAt}
 use Rattle.stm_machine.specs.QueueAndIndex.{due_of}
 use Rattle.stm_machine.proofs.BlocksByTicket.{below_more, below_push}
@@ -46,7 +46,7 @@ block_equal : (t u : ℕ) (b c : Block) (h g : Option Held) (s r : Bool) → t �
     ≡ (let y : CheckpointBlock = record { ticket = u; waiting = record { block = c; held = g }; stale = r; cause = None; label = [] } in y)
 block_equal t u b c h g s r e f p q = rw (e, f, p, q) refl
 
-one_block : (pending : List Entry) (e : ℕ × Waiting) (w : Waiter) → IsDue e w → has_ticket e.0 pending ≡ not (is_current w) → block_of pending e ≡ block_of_waiter w
+one_block : (pending : List Entry) (e : ℕ × Waiting) (w : Waiter) → IsKeptOf e w → has_ticket e.0 pending ≡ not (is_current w) → block_of pending e ≡ block_of_waiter w
 one_block pending e w d q =
     block_equal e.0 w.ticket e.1.block w.block e.1.held (held_since w.block w.since) (is_some e.1.held && has_ticket e.0 pending) (not (is_new w) && not (is_current w))
     d.ticket d.block (held_is w.block e.1.held w.since d.held)
@@ -56,7 +56,7 @@ one_block pending e w d q =
 later_found : (t : ℕ) (w : Waiter) (ws : List Waiter) → w.ticket < t → find_waiter t (w ∷ ws) ≡ find_waiter t ws
 later_found t w ws l = let no : nat_eq t w.ticket ≡ false = grind (arith, nat_tests) in rw no refl
 
-pub blocks_are : (pending : List Entry) (n k : ℕ) (es : List (ℕ × Waiting)) (ws : List Waiter) → AreDue es ws → AreRising n k ws → ((t : ℕ) → k < t → has_ticket t pending ≡ due_of (find_waiter t ws))
+pub blocks_are : (pending : List Entry) (n k : ℕ) (es : List (ℕ × Waiting)) (ws : List Waiter) → AreKeptOf es ws → AreRising n k ws → ((t : ℕ) → k < t → has_ticket t pending ≡ due_of (find_waiter t ws))
     → map (block_of pending) es ≡ map block_of_waiter ws
 blocks_are pending n k [] [] d r q = refl
 blocks_are pending n k [] (w ∷ ws) d r q = absurd d
@@ -70,7 +70,7 @@ blocks_are pending n k (e ∷ es) (w ∷ ws) d r q =
     ∙ ap (λ (bs : List CheckpointBlock). block_of_waiter w ∷ bs)
     (blocks_are pending n w.ticket es ws d.1 r.2 (λ t l. q t (omega arith) ∙ ap due_of (later_found t w ws l)))
 
-pub entries_rise : (n k : ℕ) (es : List (ℕ × Waiting)) (ws : List Waiter) → AreDue es ws → AreRising n k ws → EntriesRise k es
+pub entries_rise : (n k : ℕ) (es : List (ℕ × Waiting)) (ws : List Waiter) → AreKeptOf es ws → AreRising n k ws → EntriesRise k es
 entries_rise n k [] ws d r = tt
 entries_rise n k (e ∷ es) [] d r = absurd d
 entries_rise n k (e ∷ es) (w ∷ ws) d r = (rw d.0.ticket r.0, rw d.0.ticket (entries_rise n w.ticket es ws d.1 r.2))

@@ -9,7 +9,7 @@ use Rattle.stm_events.specs.SlowDesk.{Waiter, find_waiter}
 use Rattle.stm_events.specs.SlowSettle.{lowest, is_due}
 use Rattle.stm_events.specs.Laws.{AreRising}
 use Rattle.stm_machine.specs.SettleChoices.{some_out}
-use Rattle.stm_machine.specs.QueueAndIndex.{due_of, AreQueued}
+use Rattle.stm_machine.specs.QueueAndIndex.{due_of, ArePending}
 use Rattle.stm_events.proofs.Rising.{not_above}
 
 itself : (i : ℕ) → nat_eq i i ≡ true
@@ -97,7 +97,7 @@ first_least t e es r h = by (nat_eq t e.0) refl h where
   by true q h = grind (arith, nat_tests)
   by false q h = let m : e.0 < t = rises_over e.0 t es r h in omega arith
 
-head_by : (ps : List Entry) (ws : List Waiter) (n k : ℕ) (o : Option Waiter) → lowest is_due ws ≡ o → IsRising (tickets ps) → AreRising n k ws → AreQueued ps ws → first_ticket ps ≡ option_map (λ w. w.ticket) o
+head_by : (ps : List Entry) (ws : List Waiter) (n k : ℕ) (o : Option Waiter) → lowest is_due ws ≡ o → IsRising (tickets ps) → AreRising n k ws → ArePending ps ws → first_ticket ps ≡ option_map (λ w. w.ticket) o
 head_by [] ws n k None f r s q = refl
 head_by (e ∷ es) ws n k None f r s q =
     let a : has_ticket e.0 (e ∷ es) ≡ true = or_left (nat_eq e.0 e.0) (has_ticket e.0 es) (itself e.0) in
@@ -116,7 +116,7 @@ head_by (e ∷ es) ws n k (Some w) f r s q =
     ap Some i
 
 -- the first ticket of the queue is the lowest that is new or stale
-pub head_due : (ps : List Entry) (ws : List Waiter) (n k : ℕ) → IsRising (tickets ps) → AreRising n k ws → AreQueued ps ws → first_ticket ps ≡ option_map (λ w. w.ticket) (lowest is_due ws)
+pub head_due : (ps : List Entry) (ws : List Waiter) (n k : ℕ) → IsRising (tickets ps) → AreRising n k ws → ArePending ps ws → first_ticket ps ≡ option_map (λ w. w.ticket) (lowest is_due ws)
 head_due ps ws n k r s q = head_by ps ws n k (lowest is_due ws) refl r s q
 
 -- ---- where no ticket is out, the first queued ticket is the first of all

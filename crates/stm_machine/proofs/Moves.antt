@@ -19,7 +19,7 @@ use Rattle.stm_events.proofs.Rising.{rising_without, waiter_without, waiter_deli
 use Rattle.stm_waiting.specs.declared.waiting.Held.{Held}
 use Rattle.stm_waiting.specs.declared.waiting.Waiting.{Waiting}
 use Rattle.stm_waiting.specs.Entries.{kept_at, lose, with_held, held_reads}
-use Rattle.stm_machine.specs.Entries.{AreDue, kept_reads}
+use Rattle.stm_machine.specs.Entries.{AreKeptOf, kept_reads}
 use Rattle.stm_machine.specs.Machine.{Parts, Stands}
 use Rattle.stm_machine.specs.QueueAndIndex.{with_tickets, due_of, watches_of, read_since}
 use Rattle.stm_machine.proofs.Due.{IsFound, found, due_push, due_lose, due_marks, due_held, held_are}
@@ -65,7 +65,7 @@ stands_install s m watch' t w h k f n holds q =
     }
 
 -- what is kept of a ticket is what its block read
-pub reads_there : (u : ℕ) (es : List (ℕ × Waiting)) (ws : List Waiter) (w : Waiter) → AreDue es ws → find_waiter u ws ≡ Some w → kept_reads (kept_at u es) ≡ read_since w.block w.since
+pub reads_there : (u : ℕ) (es : List (ℕ × Waiting)) (ws : List Waiter) (w : Waiter) → AreKeptOf es ws → find_waiter u ws ≡ Some w → kept_reads (kept_at u es) ≡ read_since w.block w.since
 reads_there u es ws w d e = same (kept_at u es) (find_waiter u ws) (found u es ws d) e where
   same : (o : Option Waiting) (p : Option Waiter) → IsFound o p → p ≡ Some w → kept_reads o ≡ read_since w.block w.since
   same None p f h = absurd (none p f h) where

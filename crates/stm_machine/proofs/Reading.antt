@@ -11,7 +11,7 @@ use Rattle.stm_events.specs.SlowDesk as slow
 use Rattle.stm_events.specs.SlowSettle.{lowest}
 use Rattle.stm_waiting.specs.declared.waiting.Waiting.{Waiting}
 use Rattle.stm_waiting.specs.Entries.{first_above}
-use Rattle.stm_machine.specs.Entries.{AreDue}
+use Rattle.stm_machine.specs.Entries.{AreKeptOf}
 use Rattle.stm_events.specs.BlockStatus.{read_then, read_now}
 
 -- ---- the least ticket above one
@@ -19,7 +19,7 @@ above_step : (b : Bool) (n : ℕ) (w : Waiter) (o : Option ℕ) (p : Option Wait
 above_step true n w o p e h = ap Some e
 above_step false n w o p e h = h
 
-pub above_due : (a : ℕ) (es : List (ℕ × Waiting)) (ws : List Waiter) → AreDue es ws → first_above a es ≡ option_map (λ w. w.ticket) (lowest (λ w. nat_lt a w.ticket) ws)
+pub above_due : (a : ℕ) (es : List (ℕ × Waiting)) (ws : List Waiter) → AreKeptOf es ws → first_above a es ≡ option_map (λ w. w.ticket) (lowest (λ w. nat_lt a w.ticket) ws)
 above_due a [] [] d = refl
 above_due a [] (w ∷ ws) d = absurd d
 above_due a (e ∷ es) [] d = absurd d

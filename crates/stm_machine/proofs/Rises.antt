@@ -14,7 +14,7 @@ use Rattle.stm_events.specs.SlowDesk.{Waiter, becomes_stale, stale_after, find_w
 use Rattle.stm_events.specs.Laws.{AreRising}
 use Rattle.stm_events.proofs.Rising.{rising_without, waiter_without}
 use Rattle.stm_waiting.specs.declared.waiting.Waiting.{Waiting}
-use Rattle.stm_machine.specs.Entries.{AreDue}
+use Rattle.stm_machine.specs.Entries.{AreKeptOf}
 use Rattle.stm_machine.specs.Machine.{AreWatched}
 use Rattle.stm_machine.proofs.Points.{stale_of, has_stale}
 use Rattle.stm_machine.proofs.Stales.{watches_stale}
@@ -86,13 +86,13 @@ without_bools : (d : Bool) (woken : List ℕ) (o : Option Waiter) → (not d && 
 without_bools true woken o = refl
 without_bools false woken o = refl
 
-pub watched_stale : (watch : Pairs) (es : List (ℕ × Waiting)) (ws : List Waiter) (woken : List ℕ) (n t u : ℕ) → AreDue es ws → AreWatched watch ws → AreRising n 0 ws
+pub watched_stale : (watch : Pairs) (es : List (ℕ × Waiting)) (ws : List Waiter) (woken : List ℕ) (n t u : ℕ) → AreKeptOf es ws → AreWatched watch ws → AreRising n 0 ws
     → list_any (nat_eq u) (stale_after woken (without_waiter t ws)) ≡ (not (nat_eq u t) && watches watch woken u)
 watched_stale watch es ws woken n t u d i r =
     has_stale u n 0 woken (without_waiter t ws) (rising_without t n 0 ws r) ∙ ap (stale_of woken) (waiter_without t u n 0 ws r)
     ∙ sym (ap (λ (b : Bool). not (nat_eq u t) && b) (watches_stale watch es ws woken u d i) ∙ without_bools (nat_eq u t) woken (find_waiter u ws))
 
-pub stale_is : (watch : Pairs) (es : List (ℕ × Waiting)) (ws : List Waiter) (woken ts : List ℕ) (n t : ℕ) → AreDue es ws → AreWatched watch ws → AreRising n 0 ws
+pub stale_is : (watch : Pairs) (es : List (ℕ × Waiting)) (ws : List Waiter) (woken ts : List ℕ) (n t : ℕ) → AreKeptOf es ws → AreWatched watch ws → AreRising n 0 ws
     → IsRising ts → ((u : ℕ) → list_any (nat_eq u) ts ≡ (not (nat_eq u t) && watches watch woken u))
     → ts ≡ stale_after woken (without_waiter t ws)
 stale_is watch es ws woken ts n t d i r inc h =

@@ -10,7 +10,7 @@ use Rattle.stm_events.specs.SlowDesk.{Since, Waiter, Slow, Standing, New, Stale,
 use Rattle.stm_events.specs.States.{IsPossible, ObservedWaiter, observed_waiter, observed}
 use Rattle.stm_waiting.specs.declared.waiting.Held.{Held}
 use Rattle.stm_waiting.specs.declared.waiting.Waiting.{Waiting}
-use Rattle.stm_machine.specs.Entries.{IsHeld, IsDue, AreDue}
+use Rattle.stm_machine.specs.Entries.{IsHeld, IsKeptOf, AreKeptOf}
 use Rattle.stm_machine.specs.Machine.{Parts, IsAt}
 use Rattle.stm_machine.specs.QueueAndIndex.{due_of, read_since, watches_of}
 
@@ -96,7 +96,7 @@ held_alike b (Some h) (Some s) (Some s') e r i = record {
   reads_are = ap reads_in (sym r) ∙ i.reads_are;
 }
 
-one_alike : (e : ℕ × Waiting) (w w' : Waiter) → observed_waiter w ≡ observed_waiter w' → IsDue e w → IsDue e w'
+one_alike : (e : ℕ × Waiting) (w w' : Waiter) → observed_waiter w ≡ observed_waiter w' → IsKeptOf e w → IsKeptOf e w'
 one_alike e w w' h d =
     let same : w.block ≡ w'.block = ap (λ (o : ObservedWaiter). o.block) h in
     record {
@@ -108,7 +108,7 @@ one_alike e w w' h d =
           (ap (λ (o : ObservedWaiter). o.reads) h ∙ ap (λ (b : Block). read_since_then b w'.since) (sym same)) d.held);
     }
 
-due_alike : (es : List (ℕ × Waiting)) (ws ws' : List Waiter) → map observed_waiter ws ≡ map observed_waiter ws' → AreDue es ws → AreDue es ws'
+due_alike : (es : List (ℕ × Waiting)) (ws ws' : List Waiter) → map observed_waiter ws ≡ map observed_waiter ws' → AreKeptOf es ws → AreKeptOf es ws'
 due_alike [] [] [] e d = tt
 due_alike [] [] (w' ∷ ws') e d = cc
 due_alike [] (w ∷ ws) ws' e d = absurd d

@@ -16,7 +16,7 @@ use Rattle.stm_watch.specs.Pairs.{Pairs, is_read, watches}
 use Rattle.stm_events.specs.SlowDesk.{Since, Waiter, under, looked_on, intersects, is_stale_since, current_since, is_current, woken_more, find_waiter}
 use Rattle.stm_waiting.specs.declared.waiting.Waiting.{Waiting}
 use Rattle.stm_waiting.specs.Entries.{kept_at}
-use Rattle.stm_machine.specs.Entries.{AreDue, IsHeld}
+use Rattle.stm_machine.specs.Entries.{AreKeptOf, IsHeld}
 use Rattle.stm_machine.specs.QueueAndIndex.{read_since, watches_of}
 use Rattle.stm_machine.specs.Machine.{AreWatched}
 use Rattle.stm_machine.proofs.Due.{IsSame, IsFound, found}
@@ -121,5 +121,5 @@ by_index watch ws [] u i = refl
 by_index watch ws (v ∷ vs) u i = ap₂ (λ a b. a || b) (i v u) (by_index watch ws vs u i)
 
 -- a ticket watches some of the variables where it becomes stale by them
-pub watches_stale : (watch : Pairs) (es : List (ℕ × Waiting)) (ws : List Waiter) (woken : List ℕ) (u : ℕ) → AreDue es ws → AreWatched watch ws → watches watch woken u ≡ stale_of woken (find_waiter u ws)
+pub watches_stale : (watch : Pairs) (es : List (ℕ × Waiting)) (ws : List Waiter) (woken : List ℕ) (u : ℕ) → AreKeptOf es ws → AreWatched watch ws → watches watch woken u ≡ stale_of woken (find_waiter u ws)
 watches_stale watch es ws woken u d i = by_index watch ws woken u i ∙ watched_of woken (kept_at u es) (find_waiter u ws) (found u es ws d)

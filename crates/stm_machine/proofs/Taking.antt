@@ -16,7 +16,7 @@ use Rattle.stm_queue.proofs.Membership.{has_sent_out}
 use Rattle.stm_events.specs.SlowDesk.{Waiter, Slow, under, find_waiter}
 use Rattle.stm_waiting.specs.declared.waiting.Waiting.{Waiting}
 use Rattle.stm_waiting.specs.Entries.{kept_at}
-use Rattle.stm_machine.specs.Entries.{AreDue}
+use Rattle.stm_machine.specs.Entries.{AreKeptOf}
 use Rattle.stm_machine.specs.Machine.{Parts, IsAt}
 use Rattle.stm_machine.specs.QueueAndIndex.{due_of}
 use Rattle.stm_eval.specs.CoveredJobs.{AreJobsCovered}
@@ -73,7 +73,7 @@ job_step None (Some w) b f e = absurd f
 job_step (Some x) None b f e = absurd f
 job_step (Some x) (Some w) b f e = ap Some (sym f.block) ∙ e
 
-pub are_jobs : (s : Slow) (es : List (ℕ × Waiting)) (js : List Job) → AreDue es s.waiters → AreKept es js → AreJobs s js
+pub are_jobs : (s : Slow) (es : List (ℕ × Waiting)) (js : List Job) → AreKeptOf es s.waiters → AreKept es js → AreJobs s js
 are_jobs s es [] d a = tt
 are_jobs s es (j ∷ js) d a = (job_step (kept_at j.ticket es) (find_waiter j.ticket s.waiters) j.block (found j.ticket es s.waiters d) a.0, are_jobs s es js d a.1)
 

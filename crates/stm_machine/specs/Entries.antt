@@ -16,17 +16,17 @@ IsHeld block (Some h) None = ⊥
 IsHeld block (Some h) (Some s) = Holds block.tree (under s.store_then) h.reads h.verdict
 
 -- what is kept is of this waiting block: its ticket, the block, and what its last delivery brought
-pub record IsDue (e : ℕ × Waiting) (w : Waiter) : Type 0 where
+pub record IsKeptOf (e : ℕ × Waiting) (w : Waiter) : Type 0 where
   pub ticket : e.0 ≡ w.ticket
   pub block : e.1.block ≡ w.block
   pub held : IsHeld w.block e.1.held w.since
 
 -- one after another, the blocks kept are those that wait
-abbrev pub AreDue : List (ℕ × Waiting) → List Waiter → Type 0
-AreDue [] [] = Unit {0}
-AreDue [] (w ∷ ws) = ⊥
-AreDue (e ∷ es) [] = ⊥
-AreDue (e ∷ es) (w ∷ ws) = IsDue e w × AreDue es ws
+abbrev pub AreKeptOf : List (ℕ × Waiting) → List Waiter → Type 0
+AreKeptOf [] [] = Unit {0}
+AreKeptOf [] (w ∷ ws) = ⊥
+AreKeptOf (e ∷ es) [] = ⊥
+AreKeptOf (e ∷ es) (w ∷ ws) = IsKeptOf e w × AreKeptOf es ws
 
 -- what was read at the last delivery of the block under a ticket, if there is one
 abbrev pub kept_reads : Option Waiting → List (ℕ × Value)

@@ -14,9 +14,9 @@ use Rattle.stm_events.specs.SlowDesk.{Waiter, Slow, find_waiter, after, Allows}
 use Rattle.stm_events.specs.States.{IsPossible}
 use Rattle.stm_events.specs.Refusals.{install_first, DeliveryRefusedAs}
 use Rattle.stm_waiting.specs.declared.waiting.Waiting.{Waiting}
-use Rattle.stm_machine.specs.Entries.{AreDue}
+use Rattle.stm_machine.specs.Entries.{AreKeptOf}
 use Rattle.stm_queue.specs.Queue.{Entry}
-use Rattle.stm_machine.specs.QueueAndIndex.{AreQueued, watches_of}
+use Rattle.stm_machine.specs.QueueAndIndex.{ArePending, watches_of}
 
 -- the rule, the store, the names of variables, the next ticket, the waiting blocks by their tickets, the tickets that are queued or out,
 -- and the index
@@ -39,8 +39,8 @@ pub record Stands (s : Slow) (m : Parts) : Type 0 where
   pub store_is : m.store ≡ s.store
   pub names_are : m.names ≡ s.names
   pub next_is : m.next ≡ s.next
-  pub entries_are : AreDue m.entries s.waiters
-  pub queue : AreQueued m.pending s.waiters
+  pub entries_are : AreKeptOf m.entries s.waiters
+  pub queue : ArePending m.pending s.waiters
   pub index : AreWatched m.watch s.waiters
 
 -- the machine is at this state: events may go on from it, and the machine holds it

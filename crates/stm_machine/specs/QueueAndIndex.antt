@@ -18,12 +18,12 @@ due_of None = false
 due_of (Some w) = not (is_current w)
 
 -- the tickets that are queued or out are those of the new and the stale blocks
-abbrev pub AreQueued : List Entry → List Waiter → Type 0
-AreQueued pending ws = (t : ℕ) → has_ticket t pending ≡ due_of (find_waiter t ws)
+abbrev pub ArePending : List Entry → List Waiter → Type 0
+ArePending pending ws = (t : ℕ) → has_ticket t pending ≡ due_of (find_waiter t ws)
 
 -- each ticket of a new or stale block is queued or out, and no other is
 abbrev pub QueueIsRight : Slow → List Entry → Type 0
-QueueIsRight s pending = AreQueued pending s.waiters
+QueueIsRight s pending = ArePending pending s.waiters
 
 -- what a block read at its last delivery
 abbrev pub read_since : Block → Option Since → List (ℕ × Value)
