@@ -78,7 +78,7 @@ impl Desk {
         ensures legal { IsLegalFrom (start_state self.now) self.now.history }
         ensures few { length self.now.history ≤ self.now.limit }
     {
-        self.machine.first_queued()
+        self.machine.first_due()
     }
 
     /// The lowest ticket of a block that is new or stale, unless a block below it could finish.

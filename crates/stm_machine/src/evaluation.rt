@@ -71,7 +71,7 @@ impl Machine {
     }
 
     /// The lowest ticket of a block that is new or stale, where no ticket is out.
-    pub fn first_queued(&self) -> Option<u32>
+    pub fn first_due(&self) -> Option<u32>
         requires { some_out self.now.pending ≡ false }
         ensures { (s : Slow) → IsAt self.now s → result ≡ next_due s }
     {
@@ -80,7 +80,7 @@ impl Machine {
 
     /// The lowest queued ticket, whether or not others are out. Its block is new or stale.
     pub fn next_queued(&self) -> Option<u32>
-        ensures first { result ≡ slice_get (queued self.now.pending) 0 }
+        ensures first { result ≡ first_queued self.now.pending }
         ensures due { IfSome result (λ t. (s : Slow) → IsAt self.now s
             → due_of (find_waiter t s.waiters) ≡ true) }
         ensures rising { IsRising (tickets self.now.pending) }
