@@ -8,11 +8,13 @@ use Rattle.stm_events.specs.declared.event.What.{What}
 use Rattle.stm_events.specs.declared.event.What.TheVariants.{Submitted, Installed, Finished, Cancelled, Declared as DeclaredLate, Labelled}
 use Rattle.stm_events.specs.BlockStatus.{read_now}
 use Rattle.stm_events.specs.Labels.{Labels, labels_from}
+use Rattle.stm_events.specs.Laws.{SubmittedAreWellTyped}
 use Rattle.stm_events.specs.SlowDesk.{Slow, Waiter, Standing, standing, verdict_on, is_current, find_waiter, state_from}
 use Rattle.stm_events.specs.SlowSettle.{settling}
 use Rattle.stm_events.specs.Rounds.{a_round}
-use Rattle.stm_machine.specs.Checkpoints.{CheckpointView, start_of, first_labels}
-use Rattle.stm_machine.specs.Machine.{event}
+use Rattle.stm_events.specs.States.{IsLegalFrom}
+use Rattle.stm_machine.specs.Checkpoints.{CheckpointView, start_of, first_labels, MayStart}
+use Rattle.stm_machine.specs.Machine.{Parts, IsAt, event}
 use Rattle.stm_machine.specs.QueueAndIndex.{due_of, with_tickets}
 use Rattle.stm_machine.specs.SettleChoices.{some_out}
 
@@ -69,6 +71,17 @@ lacks_room d n = nat_lt d.limit (length d.history + n)
 -- each ticket of a new or stale block is queued or out, and no other is
 abbrev pub DeskQueueIsRight : DeskView → Type 0
 DeskQueueIsRight d = (t : ℕ) → has_ticket t d.pending ≡ due_of (find_waiter t (state_of d).waiters)
+
+-- a desk can go on from a history, whose variables, checkpoint and events are given, with this machine
+pub record CanResume (variables : List Declared) (begun : Option CheckpointView) (events : List Event) (machine : Parts) : Type 0 where
+  -- a history may begin with the variables, or from the checkpoint
+  pub start : MayStart variables begun
+  -- the events are legal from there
+  pub legal : IsLegalFrom (start_of variables begun) events
+  -- the machine is at the state that they lead to
+  pub at : IsAt machine (state_from (start_of variables begun) events)
+  -- each block that is submitted in it is well typed
+  pub typed : SubmittedAreWellTyped events
 
 -- a desk that goes on from a history, whose variables, checkpoint and events are given, with the number of events that it takes
 pub record IsResumed (variables : List Declared) (begun : Option CheckpointView) (events : List Event) (most : ℕ) (d : DeskView) : Type 0 where

@@ -2,13 +2,9 @@
 
 ghost use Rattle.std.specs.Prelude.{◌≤◌, ◌↔◌, length, IsOk, IfOk};
 ghost use Rattle.stm_events.specs.Labels.{AreSameLabels, labels_from};
-ghost use Rattle.stm_events.specs.Laws.{SubmittedAreWellTyped};
-ghost use Rattle.stm_events.specs.SlowDesk.{state_from};
 ghost use Rattle.stm_terms.specs.Limits.{max_events as most_events};
-ghost use Rattle.stm_events.specs.States.{IsLegalFrom};
-ghost use Rattle.stm_machine.specs.Checkpoints.{start_of, first_labels, MayStart};
-ghost use Rattle.stm_machine.specs.Machine.{IsAt};
-ghost use Rattle.stm_desk.specs.DeskView.{IsResumed};
+ghost use Rattle.stm_machine.specs.Checkpoints.{first_labels};
+ghost use Rattle.stm_desk.specs.DeskView.{CanResume, IsResumed};
 
 use crate::desk::Desk;
 use crate::past::Past;
@@ -37,10 +33,7 @@ impl Desk {
         max_events: u32,
     ) -> Result<Desk, TooManyEvents>
         // The history is legal, and the machine is at the state that it leads to.
-        requires start { MayStart table checkpoint }
-        requires legal { IsLegalFrom (start_of table checkpoint) events.items }
-        requires at { IsAt machine (state_from (start_of table checkpoint) events.items) }
-        requires typed { SubmittedAreWellTyped events.items }
+        requires history { CanResume table checkpoint events.items machine }
         // The labels are those that the events give.
         requires labels { AreSameLabels labels (labels_from (first_labels checkpoint) events.items) }
         requires small { max_events ≤ most_events }
@@ -62,10 +55,7 @@ impl Desk {
         labels: LabelTable,
         max_events: u32,
     ) -> Desk
-        requires start { MayStart table checkpoint }
-        requires legal { IsLegalFrom (start_of table checkpoint) events.items }
-        requires at { IsAt machine (state_from (start_of table checkpoint) events.items) }
-        requires typed { SubmittedAreWellTyped events.items }
+        requires history { CanResume table checkpoint events.items machine }
         requires labels { AreSameLabels labels (labels_from (first_labels checkpoint) events.items) }
         requires small { max_events ≤ most_events }
         requires few { length events.items ≤ max_events }

@@ -11,14 +11,14 @@ use Rattle.stm_desk.proofs.desk.Desk.resumed.Goals as goal
 pub invariant_of-desk : goal.invariant_of-desk
 invariant_of-desk c = (
   record {
-    start = c.requires.start;
-    legal = c.requires.legal;
-    at = c.recall.ensures.kept (state_from (start_of c.args.table c.args.checkpoint) c.args.events.items) c.requires.at;
+    start = c.requires.history.start;
+    legal = c.requires.history.legal;
+    at = c.recall.ensures.kept (state_from (start_of c.args.table c.args.checkpoint) c.args.events.items) c.requires.history.at;
     few = c.requires.few;
     small = c.requires.small;
-    typed = c.requires.typed;
+    typed = c.requires.history.typed;
   },
-  labels_begin c.args.table c.args.checkpoint c.args.events.items c.args.labels c.requires.start c.requires.legal.each c.requires.labels,
+  labels_begin c.args.table c.args.checkpoint c.args.events.items c.args.labels c.requires.history.start c.requires.history.legal.each c.requires.labels,
 )
 
 pub returns : goal.returns
@@ -29,6 +29,6 @@ returns c =
       checkpoint = refl;
       limit = refl;
       history = refl;
-      queue = (c.recall.ensures.kept (state_from (start_of c.args.table c.args.checkpoint) c.args.events.items) c.requires.at).stands.queue;
+      queue = (c.recall.ensures.kept (state_from (start_of c.args.table c.args.checkpoint) c.args.events.items) c.requires.history.at).stands.queue;
       none_out = ap (λ (m : Parts). some_out m.pending) c.recall.ensures.recalled ∙ out_back before;
     }
