@@ -1,19 +1,18 @@
 //! The desk under its lock: what each call does that is lent the desk and a pass.
 
-ghost use Rattle.std.specs.Prelude.{◌≡◌, ◌≢◌, ◌<◌, ◌⊎◌, false, Some, length, option_map, is_some, IsTrue, IfOk, OnOk, IfErr, OnErr, IfSome};
+ghost use Rattle.std.specs.Prelude.{◌≡◌, ◌≢◌, ◌<◌, ◌⊎◌, false, length, is_some, IsTrue, IfOk, OnOk, IfErr, OnErr, IfSome};
 ghost use Rattle.stm_terms.specs.Names.{is_name_text};
 ghost use Rattle.stm_terms.specs.UnlessNoMemory.{RefusedAs};
-ghost use Rattle.stm_store.specs.Cells.{plains, Covers, applied_answer};
+ghost use Rattle.stm_store.specs.Cells.{Covers, applied_answer};
 ghost use Rattle.stm_events.specs.declared.event.What.TheVariants.{Submitted, Cancelled, Declared as DeclaredLate};
-ghost use Rattle.stm_machine.specs.JobsHandedOut.{block_at};
 ghost use Rattle.stm_machine.specs.Plans.{IsPlan};
 ghost use Rattle.stm_events.specs.Refusals.{without_message};
-ghost use Rattle.stm_queue.specs.Queue.{is_out, marked, first_queued, sent_out};
+ghost use Rattle.stm_queue.specs.Queue.{is_out, marked, first_queued};
 ghost use Rattle.stm_desk.specs.DeskView.{state_of};
 ghost use Rattle.stm_desk.specs.Events.{finish_of};
 ghost use Rattle.stm_desk.specs.Refusals.{submit_refusal, late_declare_refusal, cancel_refusal, finish_refusal, RefusesDelivery};
 ghost use Rattle.stm_pool.specs.Own.{own_of, events_in_passes};
-ghost use Rattle.stm_pool.specs.Lent.{JoinsBoth, DeliversAs};
+ghost use Rattle.stm_pool.specs.Lent.{JoinsBoth, DeliversAs, TakesJob};
 ghost use Rattle.stm_pool.specs.Shown.{IsShown, IsPresentView};
 ghost use Rattle.stm_pool.specs.Closing.{close_error, ClosesAs, MayClose, IsCloseError};
 
@@ -196,16 +195,8 @@ impl<L: Ledger> Guarded<L> {
     /// The job of the lowest queued ticket, which is out from then on, and an unchanging copy of
     /// the present store, which has the variables of its block; nothing if no ticket is queued.
     pub fn take(&mut self) -> Result<Option<(Frozen, Job)>, NoMemory>
-        ensures ticket { IfOk result (λ r.
-            option_map (λ j. j.1.ticket) r ≡ first_queued self.old.desk.pending) }
-        ensures block { IfOk result (λ r. IfSome r (λ j.
-            block_at (state_of self.old.desk) j.1.ticket ≡ Some j.1.block)) }
-        ensures store { IfOk result (λ r. IfSome r (λ j. j.0 ≡ plains (state_of self.old.desk).store)) }
+        ensures taken { IfOk result (λ r. TakesJob self.old.desk self.new.desk r) }
         ensures covered { IfOk result (λ r. IfSome r (λ j. Covers j.0 j.1.block.uses)) }
-        ensures out { OnOk result (self.new.desk
-            ≡ record self.old.desk {
-              pending = sent_out (first_queued self.old.desk.pending) self.old.desk.pending;
-            }) }
         ensures unchanged { OnErr result (self.new.desk ≡ self.old.desk) }
         ensures same { self.new.stopped ≡ self.old.stopped }
     {
