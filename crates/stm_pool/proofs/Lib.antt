@@ -1,6 +1,7 @@
 mod Closes
 mod Counted
 pub mod Crosses
+mod Newcomers
 mod OneJob
 mod OnlyTheirs
 mod Owns

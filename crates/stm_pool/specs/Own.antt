@@ -1,5 +1,5 @@
 -- What a client knows of a history.
-use Rattle.std.specs.Prelude.{ℕ, ◌+◌, Bool, true, ◌&&◌, ◌==◌, nat_lt, List, [], ◌∷◌, ◌++◌, length, if◌then◌else◌}
+use Rattle.std.specs.Prelude.{ℕ, zero, suc, ◌+◌, Bool, true, ◌&&◌, ◌==◌, nat_lt, List, [], ◌∷◌, ◌++◌, length, if◌then◌else◌}
 use Rattle.stm_events.specs.declared.event.Event.{Event}
 
 -- what a pass is to its holder: the client, its own accepted events, and how many events it has seen
@@ -31,6 +31,11 @@ events_in_passes (p ∷ ps) = length p.own + events_in_passes ps
 -- a client who has done and seen nothing
 abbrev pub newcomer : ℕ → Known
 newcomer client = record { client = client; own = []; seen = 0 }
+
+-- this many clients from one on, in order, who have done and seen nothing
+abbrev pub newcomers : ℕ → ℕ → List Known
+newcomers client zero = []
+newcomers client (suc n) = newcomer client ∷ newcomers (client + 1) n
 
 -- the same client with one event more
 abbrev pub with_own : Known → Event → Known

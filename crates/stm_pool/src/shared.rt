@@ -1,8 +1,8 @@
 //! A desk that threads share, and how it opens.
 
-ghost use Rattle.std.specs.Prelude.{◌≡◌, ◌<◌, ◌≤◌, ℕ, vec_len, slice_index_or, IfOk};
+ghost use Rattle.std.specs.Prelude.{◌≡◌, ◌<◌, ◌≤◌, IfOk};
 ghost use Rattle.stm_terms.specs.Limits.{max_events as most_events, max_clients};
-ghost use Rattle.stm_pool.specs.Own.{newcomer};
+ghost use Rattle.stm_pool.specs.Own.{newcomer, newcomers};
 
 use crate::guarded::Guarded;
 use crate::pass::Pass;
@@ -67,9 +67,7 @@ impl<L: Ledger> SharedDesk<L> {
         requires passes { passes ≤ max_clients }
         requires events { max_events ≤ most_events }
         ensures desk { IfOk result (λ r. r.0 ≡ passes) }
-        ensures len { IfOk result (λ r. vec_len r.1 ≡ passes) }
-        ensures each { IfOk result (λ r. (k : ℕ) (d : _) → k < passes
-            → slice_index_or r.1.items k d ≡ newcomer k) }
+        ensures passes { IfOk result (λ r. r.1.items ≡ newcomers 0 passes) }
     {
         let (book, mut rest) = blank.open::<L>();
         let mut all = Vec::with_capacity(alloc, passes as usize)?;
