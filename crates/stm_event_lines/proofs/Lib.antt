@@ -4,6 +4,7 @@ pub mod Checkpoints
 pub mod Exact
 pub mod FitsPushed
 pub mod LaterNames
+pub mod ReadAs
 pub mod ReadLoosely
 pub mod OneLines
 pub mod Ranges

@@ -1,6 +1,6 @@
 -- The text of a line reads as its value, and the value as what it was written for.
-use Rattle.std.proofs.Common.{◌≡◌, inl, inr, ℕ, ◌≤◌, ◌<◌, ◌^◌, List, [], ◌∷◌, Option, Some, None, Err, true, refl, sym, ap, ◌∙◌, arith, append-nil, subst, pos, negsuc}
-use Rattle.std.specs.Prelude.{option_and_then, IsErrOf}
+use Rattle.std.proofs.Common.{◌≡◌, inl, inr, ℕ, ◌≤◌, ◌<◌, ◌^◌, List, [], ◌∷◌, Option, Some, None, true, refl, sym, ap, ◌∙◌, arith, append-nil, subst, pos, negsuc}
+use Rattle.std.specs.Prelude.{option_and_then}
 use Rattle.std.specs.Str.{IsUtf8}
 use Rattle.std.proofs.lemmas.Str.{IsUtf8-from_ascii}
 use Rattle.std.proofs.lemmas.Bool.{lt-ltb}
@@ -128,12 +128,6 @@ header_back format n k h = let f : Is32Bit format = format_fits format k in rw (
 
 variable_back : (d : Declared) → FitsVariable d → declared_from_json (variable_data d) ≡ Some d
 variable_back d f = rw (type_back d.kind f.1, value_back d.value f.2)
-
--- ---- errors
-
--- one error, whatever the answer would have been without it
-pub same_error : {T U E : Type 0} (d e : E) → IsErrOf {T = T} {E = E} (Err d) e → IsErrOf {T = U} {E = E} (Err d) e
-same_error d e h = let same : d ≡ e = cc in ap (λ x. Err x) same
 
 -- ---- what a line is that was read
 

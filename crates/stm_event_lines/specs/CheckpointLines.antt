@@ -14,6 +14,7 @@ use Rattle.stm_check.specs.TypedBlock.{Block}
 use Rattle.stm_events.specs.Delivered.{Delivered}
 use Rattle.stm_events.specs.declared.kept_cause.KeptCause.{KeptCause}
 use Rattle.stm_events.specs.Labels.{is_label}
+use Rattle.stm_event_lines.specs.declared.checkpoint.CheckpointHeader.{CheckpointHeader}
 use Rattle.stm_event_lines.specs.declared.checkpoint.DeliveredParts.{DeliveredParts}
 use Rattle.stm_event_lines.specs.declared.checkpoint.WaitingBlock.{WaitingBlock}
 use Rattle.stm_event_lines.specs.declared.checkpoint.WaitingLine.{WaitingLine}
@@ -42,6 +43,14 @@ checkpoint_header_data format next vars waiting =
 unfoldable pub checkpoint_header_line : ℕ → ℕ → ℕ → ℕ → List ℕ
 checkpoint_header_line format next vars waiting = compact_text (checkpoint_header_data format next vars waiting)
 
+-- the first line that says this
+abbrev pub line_of_checkpoint_header : CheckpointHeader → List ℕ
+line_of_checkpoint_header h = checkpoint_header_line h.format h.next h.vars h.waiting
+
+-- the format is one of checkpoints, and the other numbers are in range
+abbrev pub FitsCheckpointHeader : CheckpointHeader → Type 0
+FitsCheckpointHeader h = IsCheckpointFormat h.format × Is32Bit h.next × Is32Bit h.vars × Is32Bit h.waiting
+
 -- ---- a variable
 -- a declared variable has a name, and one that a block made has none
 abbrev pub name_data : Option (List ℕ) → Data
@@ -67,6 +76,13 @@ FitsName (Some name) = IsTrue (is_name_text name)
 -- a variable by itself, whatever stands before it
 abbrev pub FitsCell : Option (List ℕ) → Cell → Type 0
 FitsCell name c = FitsName name × (c.kind.refs ≤ most_refs) × FitsValue c.value × (c.count < 2 ^ 64)
+
+-- the line of a variable with its name, if it has one
+abbrev pub line_of_cell : Option (List ℕ) × Cell → List ℕ
+line_of_cell c = cell_line c.0 c.1
+
+abbrev pub FitsNamedCell : Option (List ℕ) × Cell → Type 0
+FitsNamedCell c = FitsCell c.0 c.1
 
 -- ---- a waiting block
 -- the label before other members, unless it is empty

@@ -17,7 +17,8 @@ use Rattle.stm_events.specs.declared.event.Event.{Event}
 use Rattle.stm_events.specs.declared.event.What.{What}
 use Rattle.stm_events.specs.declared.event.What.TheVariants.{Submitted, Installed, Finished, Cancelled, Declared as DeclaredLate, Labelled}
 use Rattle.stm_events.specs.Labels.{is_label}
-use Rattle.stm_event_lines.specs.Lines.{declaring_format}
+use Rattle.stm_event_lines.specs.declared.read.Header.{Header}
+use Rattle.stm_event_lines.specs.Lines.{IsFormat, declaring_format}
 use Rattle.stm_source.specs.CompiledBlock.{compiled_block}
 
 -- the number has at most 32 bits
@@ -85,6 +86,10 @@ WhatFitsFormat format (Labelled ticket label) = format ≡ declaring_format
 -- the event may stand in a history of the format
 abbrev pub FitsFormat : ℕ → Event → Type 0
 FitsFormat format e = WhatFitsFormat format e.what
+
+-- the format is one that is read, and the number of variables is in range
+abbrev pub FitsHeader : Header → Type 0
+FitsHeader h = IsFormat h.format × Is32Bit h.vars
 
 -- a variable by itself, whatever stands before it
 abbrev pub FitsVariable : Declared → Type 0

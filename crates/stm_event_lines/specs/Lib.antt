@@ -3,6 +3,7 @@ pub mod CheckedBlocks
 pub mod CheckpointLines
 pub mod Fits
 pub mod Lines
+pub mod ReadLines
 -- The words inside.
 pub mod CheckpointFields
 pub mod Fields

@@ -18,6 +18,7 @@ use Rattle.stm_events.specs.declared.event.What.{What}
 use Rattle.stm_events.specs.declared.event.What.TheVariants.{Submitted, Installed, Finished, Cancelled, Declared as DeclaredLate, Labelled}
 use Rattle.stm_events.specs.declared.staleness.StalenessRule.{StalenessRule}
 use Rattle.stm_events.specs.declared.staleness.StalenessRule.TheVariants.{Written, Changed}
+use Rattle.stm_event_lines.specs.declared.read.Header.{Header}
 
 -- formats 1 to 3 are those of histories that begin with the first values of their variables, declare no variable late and label no
 -- block; the latest is written
@@ -125,6 +126,10 @@ event_line e = compact_text (event_data e)
 -- the first line: the format, and how many variables' lines follow
 unfoldable pub header_line : ℕ → ℕ → List ℕ
 header_line format n = compact_text (header_data format n)
+
+-- the first line that says this
+abbrev pub line_of_header : Header → List ℕ
+line_of_header h = header_line h.format h.vars
 
 -- the line of a declared variable
 unfoldable pub variable_line : Declared → List ℕ

@@ -13,11 +13,12 @@ ghost use Rattle.stm_events.specs.Delivered.{Delivered};
 ghost use Rattle.stm_events.specs.declared.kept_cause.KeptCause.{KeptCause as AnyCause};
 ghost use Rattle.stm_events.specs.Labels.{is_label};
 ghost use Rattle.stm_event_lines.specs.CheckpointFields.{checkpoint_header_of as header_meant, count_field, name_of, counted_cell_of, cell_of as cell_meant, cell_parts, bool_field, delivery_in, delivery_of as delivery_meant, label_in as label_in_meant, label_field, cause_in, cause_field, waiting_of as waiting_meant};
-ghost use Rattle.stm_event_lines.specs.CheckpointLines.{IsCheckpointFormat, checkpoint_header_data, checkpoint_header_line, name_data, cell_data, cell_line, label_before, cause_before, delivery_members, members_after_text, parts_delivered, given_data, given_line, line_of_waiting, waiting_line, FitsName, FitsCell, FitsCause, FitsDelivery, FitsWaiting, FitsWaitingBlock};
+ghost use Rattle.stm_event_lines.specs.CheckpointLines.{IsCheckpointFormat, checkpoint_header_data, checkpoint_header_line, name_data, cell_data, cell_line, label_before, cause_before, delivery_members, members_after_text, parts_delivered, given_data, given_line, line_of_waiting, waiting_line, FitsName, FitsCell, FitsCause, FitsDelivery, FitsWaitingBlock};
 ghost use Rattle.stm_event_lines.specs.Fields.{text_field, verdict_field};
 ghost use Rattle.stm_source.specs.CompiledBlock.{block_of_text};
 ghost use Rattle.stm_event_lines.specs.Fits.{Is32Bit, FitsValue, FitsVerdict};
 ghost use Rattle.stm_event_lines.specs.Lines.{write_data};
+ghost use Rattle.stm_event_lines.specs.ReadLines.{ReadsCell, ReadsCheckpointHeader, ReadsWaiting};
 ghost use Rattle.stm_event_lines.specs.Sending.{SendsMember};
 
 use crate::build::{type_text, value_json};
@@ -357,11 +358,7 @@ fn header_in(alloc: Global, json: &Json, line: &[u8]) -> Result<CheckpointHeader
 
 /// Reads the first line, exactly if it is one of a format of checkpoints.
 pub fn read_checkpoint_header(alloc: Global, line: &[u8]) -> Result<CheckpointHeader, LineError>
-    ensures ok { IfOk result (λ h. checkpoint_header_line h.format h.next h.vars h.waiting ≡ line.now) }
-    ensures format { IfOk result (λ h. IsCheckpointFormat h.format) }
-    ensures small { IfOk result (λ h. Is32Bit h.next × Is32Bit h.vars × Is32Bit h.waiting) }
-    ensures bad { IsErrOf result LineError.Bad → (format next vars waiting : ℕ) → IsCheckpointFormat format
-        → Is32Bit next → Is32Bit vars → Is32Bit waiting → checkpoint_header_line format next vars waiting ≢ line.now }
+    ensures { ReadsCheckpointHeader line.now result }
 {
     match json_of(alloc, line) {
         Ok(json) => header_in(alloc, &json, line),
@@ -485,10 +482,7 @@ fn cell_in(alloc: Global, json: &Json, line: &[u8]) -> Result<NamedCell, LineErr
 
 /// Reads a variable's line, exactly if it is one.
 pub fn read_cell(alloc: Global, line: &[u8]) -> Result<NamedCell, LineError>
-    ensures ok { IfOk result (λ c. cell_line (option_map string_bytes c.name) c.cell ≡ line.now) }
-    ensures fits { IfOk result (λ c. FitsCell (option_map string_bytes c.name) c.cell) }
-    ensures bad { IsErrOf result LineError.Bad → (name : Option (List ℕ)) (c : AnyCell) → FitsCell name c
-        → cell_line name c ≢ line.now }
+    ensures { ReadsCell line.now result }
 {
     match json_of(alloc, line) {
         Ok(json) => cell_in(alloc, &json, line),
@@ -731,10 +725,7 @@ fn waiting_in(
 
 /// Reads the line of a waiting block, exactly if it is one whose text is a block over the names.
 pub fn read_waiting(alloc: Global, known: &Names, line: &[u8]) -> Result<WaitingBlock, LineError>
-    ensures ok { IfOk result (λ w. line_of_waiting w ≡ line.now) }
-    ensures fits { IfOk result (FitsWaitingBlock known.now) }
-    ensures bad { IsErrOf result LineError.Bad → (ticket : ℕ) (block : Block) (cause : Option AnyCause) (label : List ℕ) (d : Option Delivered)
-        → FitsWaiting known.now ticket block cause label d → waiting_line ticket block.text cause label d ≢ line.now }
+    ensures { ReadsWaiting known.now line.now result }
 {
     match json_of(alloc, line) {
         Ok(json) => waiting_in(alloc, known, &json, line),

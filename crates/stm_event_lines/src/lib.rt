@@ -6,7 +6,7 @@
 //! with the text that would be written (`drafted`). `loose` reads lines that aren't written as they have to be.
 //!
 //! What a reader has to believe: `specs/Lines` has the line of each event, `specs/CheckpointLines` those of a checkpoint, `specs/Fits` what
-//! can stand in a line, and `specs/CheckedBlocks` what holds of the blocks in them. The block of a text is that of `stm_source`, which
+//! can stand in a line, `specs/ReadLines` what reading one returns, and `specs/CheckedBlocks` what holds of the blocks in them. The block of a text is that of `stm_source`, which
 //! keeps those whose texts come again.
 #![tactic(auto)]
 

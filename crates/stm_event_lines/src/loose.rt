@@ -3,17 +3,14 @@
 ghost use Rattle.std.specs.Prelude.{◌≡◌, ◌≤◌, ◌<◌, ◌^◌, ℕ, ◌&&◌, nat_eq, is_some, List, Option, Some, IfOk, IfSome, option_map, string_bytes, codes};
 ghost use Rattle.serde_json.specs.Find.{get};
 ghost use Rattle.serde_json.specs.View.{view};
-ghost use Rattle.stm_check.specs.TypedBlock.{Block};
-ghost use Rattle.stm_events.specs.declared.event.Event.{Event as AnyEvent};
-ghost use Rattle.stm_events.specs.Delivered.{Delivered};
-ghost use Rattle.stm_events.specs.declared.kept_cause.KeptCause.{KeptCause as AnyCause};
 ghost use Rattle.stm_store.specs.declared.cell.Cell.{Cell as AnyCell};
 ghost use Rattle.stm_terms.specs.Limits.{most_refs};
 ghost use Rattle.stm_event_lines.specs.CheckpointFields.{cell_of as cell_meant, cell_parts, checkpoint_header_in};
-ghost use Rattle.stm_event_lines.specs.CheckpointLines.{IsCheckpointFormat, checkpoint_header_line, cell_line, waiting_line, FitsCell, FitsWaiting, FitsWaitingBlock};
+ghost use Rattle.stm_event_lines.specs.CheckpointLines.{IsCheckpointFormat, line_of_cell, line_of_checkpoint_header, line_of_waiting, FitsCell, FitsCheckpointHeader, FitsNamedCell, FitsWaitingBlock};
 ghost use Rattle.stm_event_lines.specs.Fields.{event_of as event_meant};
 ghost use Rattle.stm_event_lines.specs.Fits.{Is32Bit, FitsNames, FitsValue, FitsVariable};
 ghost use Rattle.stm_event_lines.specs.Lines.{IsFormat, declaring_format, event_line};
+ghost use Rattle.stm_event_lines.specs.ReadLines.{CanBeReadAs};
 ghost use Rattle.stm_event_lines.specs.Variables.{declared};
 
 use crate::checkpoint::{
@@ -41,9 +38,7 @@ fn only_event_of(alloc: Global, known: &Names, json: &Json) -> Result<Option<Eve
 
 /// The event that a line can be read as.
 pub fn loose_event(alloc: Global, known: &Names, line: &[u8]) -> Result<Option<Event>, NoMemory>
-    ensures fits { IfOk result (λ o. IfSome o (λ e. FitsNames known.now e)) }
-    ensures same { IfOk result (λ o. (d : AnyEvent) → FitsNames known.now d
-        → event_line d ≡ line.now → o ≡ Some d) }
+    ensures { IfOk result (CanBeReadAs (FitsNames known.now) event_line line.now) }
 {
     match json_of(alloc, line) {
         Ok(json) => only_event_of(alloc, known, &json),
@@ -138,12 +133,7 @@ pub fn loose_checkpoint_header(
     alloc: Global,
     line: &[u8],
 ) -> Result<Option<CheckpointHeader>, NoMemory>
-    ensures fits { IfOk result (λ o.
-        IfSome o (λ h. Is32Bit h.next × Is32Bit h.vars × Is32Bit h.waiting)) }
-    ensures format { IfOk result (λ o. IfSome o (λ h. IsCheckpointFormat h.format)) }
-    ensures same { IfOk result (λ o. (format next vars waiting : ℕ) → IsCheckpointFormat format
-        → Is32Bit next → Is32Bit vars → Is32Bit waiting → checkpoint_header_line format next vars waiting ≡ line.now
-        → o ≡ Some (record { format = format; next = next; vars = vars; waiting = waiting })) }
+    ensures { IfOk result (CanBeReadAs FitsCheckpointHeader line_of_checkpoint_header line.now) }
 {
     match json_of(alloc, line) {
         Ok(json) => Ok(checkpoint_header_read(&json)),
@@ -180,10 +170,7 @@ fn cell_read(alloc: Global, json: &Json) -> Result<Option<NamedCell>, NoMemory>
 
 /// The variable of the store that a line can be read as.
 pub fn loose_cell(alloc: Global, line: &[u8]) -> Result<Option<NamedCell>, NoMemory>
-    ensures fits { IfOk result (λ o.
-        IfSome o (λ c. FitsCell (option_map string_bytes c.name) c.cell)) }
-    ensures same { IfOk result (λ o. (name : Option (List ℕ)) (c : AnyCell) → FitsCell name c
-        → cell_line name c ≡ line.now → option_map cell_parts o ≡ Some (name, c)) }
+    ensures { IfOk result (λ o. CanBeReadAs FitsNamedCell line_of_cell line.now (option_map cell_parts o)) }
 {
     match json_of(alloc, line) {
         Ok(json) => cell_read(alloc, &json),
@@ -198,10 +185,7 @@ pub fn loose_waiting(
     known: &Names,
     line: &[u8],
 ) -> Result<Option<WaitingBlock>, NoMemory>
-    ensures fits { IfOk result (λ o. IfSome o (FitsWaitingBlock known.now)) }
-    ensures same { IfOk result (λ o. (ticket : ℕ) (block : Block) (cause : Option AnyCause) (label : List ℕ) (d : Option Delivered)
-        → FitsWaiting known.now ticket block cause label d → waiting_line ticket block.text cause label d ≡ line.now
-        → o ≡ Some (record { ticket = ticket; block = block; cause = cause; label = label; delivery = d })) }
+    ensures { IfOk result (CanBeReadAs (FitsWaitingBlock known.now) line_of_waiting line.now) }
 {
     match json_of(alloc, line) {
         Ok(json) => waiting_of(alloc, known, &json),

@@ -1,6 +1,6 @@
 //! Lines read back.
 
-ghost use Rattle.std.specs.Prelude.{◌≡◌, ◌≢◌, ◌<◌, ◌≤◌, ℕ, List, IfOk, IfSome, IsErrOf, IsUtf8, Some, None, codes, option_map, option_and_then};
+ghost use Rattle.std.specs.Prelude.{◌≡◌, ◌≢◌, ◌<◌, ◌≤◌, List, IfOk, IfSome, IsErrOf, IsUtf8, Some, None, codes, option_map, option_and_then};
 ghost use Rattle.serde_json.specs.Read.{read as read_text};
 ghost use Rattle.serde_json.specs.View.{view};
 ghost use Rattle.stm_events.specs.declared.event.Event.{Event as AnyEvent};
@@ -10,7 +10,8 @@ ghost use Rattle.stm_source.specs.LaterNames.{NamesFollow};
 ghost use Rattle.stm_event_lines.specs.Fields.{event_of as event_meant, header_of as header_meant, what_of as what_meant, if_label as if_label_meant, labelled_of, what_in as what_in_meant, if_named as if_named_meant, declared_event_of, client_field, submitted_of, installed_of, finished_of, declared_from_json as variable_meant, type_in as type_meant, text_field, verdict_field, list_field, u32_of};
 ghost use Rattle.stm_terms.specs.Limits.{most_refs, max_clients};
 ghost use Rattle.stm_event_lines.specs.Fits.{Is32Bit, FitsNames, WhatFitsNames, FitsValue, FitsVariable, FitsVerdict, FitNumbers};
-ghost use Rattle.stm_event_lines.specs.Lines.{IsFormat, event_line, header_line, variable_line};
+ghost use Rattle.stm_event_lines.specs.Lines.{event_line, variable_line};
+ghost use Rattle.stm_event_lines.specs.ReadLines.{ReadsEvent, ReadsHeader, ReadsVariable};
 ghost use Rattle.stm_event_lines.specs.Variables.{declared};
 
 use crate::drafted::drafted_event;
@@ -316,10 +317,7 @@ fn read_by_value(
 ) -> Result<Event, LineError>
     requires { blocks.old ≡ known.now }
     ensures known { blocks.new ≡ known.now }
-    ensures ok { IfOk result (λ e. event_line e ≡ line.now) }
-    ensures fits { IfOk result (λ e. FitsNames known.now e) }
-    ensures bad { IsErrOf result LineError.Bad → (e : AnyEvent) → FitsNames known.now e
-        → event_line e ≢ line.now }
+    ensures read { ReadsEvent known.now line.now result }
 {
     match json_of(alloc, line) {
         Ok(json) => event_in(alloc, known, &json, line, blocks),
@@ -337,10 +335,7 @@ pub fn read_event(
 ) -> Result<Event, LineError>
     requires { NamesFollow blocks.old known.now }
     ensures known { blocks.new ≡ known.now }
-    ensures ok { IfOk result (λ e. event_line e ≡ line.now) }
-    ensures fits { IfOk result (λ e. FitsNames known.now e) }
-    ensures bad { IsErrOf result LineError.Bad → (e : AnyEvent) → FitsNames known.now e
-        → event_line e ≢ line.now }
+    ensures read { ReadsEvent known.now line.now result }
 {
     blocks.follow(known);
     match drafted_event(alloc, known, line, blocks)? {
@@ -368,10 +363,7 @@ pub(crate) fn header_of(json: &Json) -> Option<Header>
 
 /// Reads the first line, exactly if it is one of a format that is read.
 pub fn read_header(alloc: Global, line: &[u8]) -> Result<Header, LineError>
-    ensures ok { IfOk result (λ h. IsFormat h.format × (header_line h.format h.vars ≡ line.now)) }
-    ensures small { IfOk result (λ h. Is32Bit h.vars) }
-    ensures bad { IsErrOf result LineError.Bad → (format n : ℕ) → IsFormat format → Is32Bit n
-        → header_line format n ≢ line.now }
+    ensures { ReadsHeader line.now result }
 {
     let json = match json_of(alloc, line) {
         Ok(json) => json,
@@ -445,10 +437,7 @@ fn variable_in(alloc: Global, json: &Json, line: &[u8]) -> Result<Variable, Line
 
 /// Reads a variable's line, exactly if it is one.
 pub fn read_variable(alloc: Global, line: &[u8]) -> Result<Variable, LineError>
-    ensures ok { IfOk result (λ v. variable_line (declared v) ≡ line.now) }
-    ensures fits { IfOk result (λ v. FitsVariable (declared v)) }
-    ensures bad { IsErrOf result LineError.Bad → (d : Declared) → FitsVariable d
-        → variable_line d ≢ line.now }
+    ensures { ReadsVariable line.now result }
 {
     match json_of(alloc, line) {
         Ok(json) => variable_in(alloc, &json, line),

@@ -34,7 +34,15 @@ pub lines_begin_with_braces : LinesBeginWithBraces
 lines_begin_with_braces = (header_brace, variable_brace, event_brace)
 
 pub checkpoints_begin_with_braces : CheckpointsBeginWithBraces
-checkpoints_begin_with_braces = (checkpoint_header_brace, cell_brace, waiting_brace)
+checkpoints_begin_with_braces = (
+  λ h. checkpoint_header_brace h.format h.next h.vars h.waiting,
+  λ c. cell_brace c.0 c.1,
+  λ w. waiting_brace w.ticket w.block.text w.cause w.label w.delivery,
+)
 
 pub checkpoints_are_lines : CheckpointsAreLines
-checkpoints_are_lines = record { headers = checkpoint_header_one_line; cells = cell_one_line; blocks = waiting_one_line }
+checkpoints_are_lines = record {
+  headers = λ h f. checkpoint_header_one_line h.format h.next h.vars h.waiting f.0 f.1 f.2 f.3;
+  cells = λ c f. cell_one_line c.0 c.1 f;
+  blocks = λ names w f. waiting_one_line names w.ticket w.block w.cause w.label w.delivery f;
+}

@@ -14,15 +14,20 @@ use Rattle.stm_check.specs.TypedBlock.{Block}
 use Rattle.stm_events.specs.Delivered.{Delivered}
 use Rattle.stm_events.specs.declared.kept_cause.KeptCause.{KeptCause}
 use Rattle.stm_event_lines.specs.CheckpointLines.{FitsCell, FitsWaiting, IsCheckpointFormat, cell_line, checkpoint_format, checkpoint_header_line, waiting_line}
-use Rattle.stm_event_lines.specs.Fits.{Is32Bit}
-use Rattle.stm_event_lines.specs.Lines.{IsFormat, header_line}
+use Rattle.stm_event_lines.specs.declared.checkpoint.WaitingBlock.{WaitingBlock}
+use Rattle.stm_event_lines.specs.declared.read.Header.{Header}
+use Rattle.stm_event_lines.specs.declared.read.LineError.{LineError}
+use Rattle.stm_event_lines.specs.declared.read.LineError.TheVariants as line_error
+use Rattle.stm_event_lines.specs.Fits.{FitsHeader, Is32Bit}
+use Rattle.stm_event_lines.specs.Lines.{IsFormat, header_line, line_of_header}
+use Rattle.stm_event_lines.specs.ReadLines.{ReadsCell, ReadsCheckpointHeader, ReadsWaiting}
 use Rattle.stm_event_lines.proofs.Checkpoints.{cell_same, checkpoint_header_same, waiting_same}
 use Rattle.stm_history.specs.declared.check.Stage.{Stage}
 use Rattle.stm_history.specs.declared.check.Stage.TheVariants.{Running}
 use Rattle.stm_history.specs.declared.fault.HistoryFault.{HistoryFault}
 use Rattle.stm_history.specs.declared.fault.HistoryFault.TheVariants.{BadHeader, BadLine, NoMemory}
 use Rattle.stm_history.specs.declared.replayer.Replayer.{Replayer}
-use Rattle.stm_history.specs.Checking.{CheckerState, at_header, at_variables, at_cells, at_blocks, at_events, with_blocks, with_cells, IsCheckpointHead, LeadsTo, LeadsToCells, LinesUpTo, MayBeNamed, MayRefuse, strange}
+use Rattle.stm_history.specs.Checking.{CheckerState, at_header, at_variables, at_cells, at_blocks, at_events, with_blocks, with_cells, IsCheckpointHead, LeadsTo, LeadsToCells, LinesUpTo, MayBeNamed, MayRefuse, MayTakeBlock, strange}
 use Rattle.stm_history.specs.Following.{Follows}
 use Rattle.stm_history.specs.Judgement.{IsBefore, next_line}
 use Rattle.stm_history.specs.Stages.{CountsWithinLimits, IsSmallStart, IsStage, LeadsToStage}
@@ -66,10 +71,10 @@ header_refused line e never (inl k) = inl k
 header_refused line e never (inr k) = inr (inl (k.0, header_by line never k.1))
 
 -- whatever the result is
-pub header_fault : (o : Result Stage HistoryFault) (line : List ℕ) → ((format n : ℕ) → IsFormat format → Is32Bit n → header_line format n ≢ line)
+pub header_fault : (o : Result Stage HistoryFault) (line : List ℕ) → ((h : Header) → FitsHeader h → line_of_header h ≢ line)
     → IfErr o (λ e. (e ≡ NoMemory) ⊎ ((e ≡ BadHeader) × ((q : CheckerState) → LeadsToCells line q → ⊥))) → IfErr o (λ e. MayRefuse at_header line e)
 header_fault (Ok s) line never h = tt
-header_fault (Err e) line never h = header_refused line e never h
+header_fault (Err e) line never h = header_refused line e (λ format n k small. never (record { format = format; vars = n }) (k, small)) h
 
 pub header_leads : (o : Result Stage HistoryFault) (format next vars waiting : ℕ) (names : List Named) (cells : List Cell) (line : List ℕ) → IsCheckpointFormat format → IsCheckpointHead next vars waiting
     → checkpoint_header_line format next vars waiting ≡ line → names ≡ [] → cells ≡ [] → IfOk o (λ s. IsStage s (with_cells format next vars waiting names cells)) → IfOk o (λ s. LeadsToStage at_header line s)
@@ -79,6 +84,38 @@ header_leads (Ok s) format next vars waiting names cells line i h e none nothing
   subst (λ (cs : List Cell). IsStage s (with_cells format next vars waiting [] cs)) nothing (subst (λ (t : List Named). IsStage s (with_cells format next vars waiting t cells)) none stage),
 )
 header_leads (Err f) format next vars waiting names cells line i h e none nothing stage = tt
+
+-- the fault of a line that can't be read as the first of a checkpoint
+pub head_unread : (line : List ℕ) (error : LineError) (f : HistoryFault) → (error ≡ line_error.NoMemory → f ≡ NoMemory) × (error ≡ line_error.Bad → f ≡ BadHeader) → ReadsCheckpointHeader line (Err error)
+    → (f ≡ NoMemory) ⊎ ((f ≡ BadHeader) × ((q : CheckerState) → LeadsToCells line q → ⊥))
+head_unread line line_error.NoMemory f is read = inl (is.0 refl)
+head_unread line line_error.Bad f is read = inr (
+  is.1 refl,
+  λ q k.
+      let head = k.5 in
+      let next : Is32Bit k.1 = omega (arith, head.tickets) in
+      let vars : Is32Bit k.2 = omega (arith, head.vars) in
+      let waiting : Is32Bit k.3 = omega (arith, head.waiting) in
+      read refl (record { format = k.0; next = k.1; vars = k.2; waiting = k.3 }) (k.4, next, vars, waiting) k.6,
+)
+
+-- or as a variable or a waiting block of one
+pub cell_unread : (format next vars waiting : ℕ) (names : List Named) (cells : List Cell) (line : List ℕ) (error : LineError) (f : HistoryFault)
+    → (error ≡ line_error.NoMemory → f ≡ NoMemory) × (error ≡ line_error.Bad → f ≡ BadHeader) → ReadsCell line (Err error) → MayRefuse (at_cells format next vars waiting names cells) line f
+cell_unread format next vars waiting names cells line line_error.NoMemory f is read = inl (is.0 refl)
+cell_unread format next vars waiting names cells line line_error.Bad f is read = inr (inl (is.1 refl, λ q k. read refl (k.0, k.1) (k.3).fits k.2))
+
+pub block_unread : (format waiting : ℕ) (c : CheckpointView) (line : List ℕ) (error : LineError) (f : HistoryFault)
+    → (error ≡ line_error.NoMemory → f ≡ NoMemory) × (error ≡ line_error.Bad → f ≡ BadHeader) → ReadsWaiting c.names line (Err error) → MayRefuse (at_blocks format waiting c) line f
+block_unread format waiting c line line_error.NoMemory f is read = inl (is.0 refl)
+block_unread format waiting c line line_error.Bad f is read = inr (inl (
+  is.1 refl,
+  λ q k.
+      let b : CheckpointBlock = k.0 in
+      let may : MayTakeBlock format c b = k.2 in
+      let w : WaitingBlock = record { ticket = b.ticket; block = b.waiting.block; cause = b.cause; label = b.label; delivery = delivery_of_block b } in
+      read refl w may.0 k.1,
+))
 
 -- a first line of a checkpoint that there can't be
 pub head_refused : (line : List ℕ) (format next vars waiting : ℕ) → IsCheckpointFormat format → checkpoint_header_line format next vars waiting ≡ line → Is32Bit next → Is32Bit vars → Is32Bit waiting

@@ -4,15 +4,14 @@ use Rattle.std.specs.Prelude.{◌≡◌, ℕ, List, Option, None, ⊤}
 use Rattle.stm_store.specs.declared.cell.Cell.{Cell}
 use Rattle.stm_store.specs.Naming.{Named}
 use Rattle.stm_store.specs.Tables.{Declared, AreDeclared}
-use Rattle.stm_check.specs.TypedBlock.{Block}
-use Rattle.stm_events.specs.Delivered.{Delivered}
-use Rattle.stm_events.specs.declared.kept_cause.KeptCause.{KeptCause}
 use Rattle.stm_events.specs.declared.event.Event.{Event}
 use Rattle.stm_events.specs.SlowDesk.{IsLegalBy, initial_state}
 use Rattle.stm_events.specs.States.{IsLegalFrom}
 use Rattle.stm_machine.specs.Checkpoints.{CheckpointView}
-use Rattle.stm_event_lines.specs.CheckpointLines.{FitsCell, FitsWaiting, IsCheckpointFormat, cell_line, checkpoint_header_line, waiting_line}
-use Rattle.stm_event_lines.specs.Fits.{FitsNames, AreInRange, Is32Bit, IsOneLine, BeginsWithBrace}
+use Rattle.stm_event_lines.specs.declared.checkpoint.CheckpointHeader.{CheckpointHeader}
+use Rattle.stm_event_lines.specs.declared.checkpoint.WaitingBlock.{WaitingBlock}
+use Rattle.stm_event_lines.specs.CheckpointLines.{FitsCheckpointHeader, FitsNamedCell, FitsWaitingBlock, line_of_cell, line_of_checkpoint_header, line_of_waiting}
+use Rattle.stm_event_lines.specs.Fits.{FitsNames, AreInRange, IsOneLine, BeginsWithBrace}
 use Rattle.stm_event_lines.specs.Lines.{IsFormat, rule_of, event_line, header_line, variable_line}
 use Rattle.stm_history.specs.declared.fault.HistoryFault.{HistoryFault}
 use Rattle.stm_history.specs.declared.fault.HistoryFault.TheVariants.{ReadFault, BadHeader, BadLine, NotLegal, NoMemory}
@@ -33,12 +32,9 @@ EventsAreLines = (names : List Named) (e : Event) → FitsNames names e → IsOn
 
 -- the lines of a checkpoint are ASCII, without a line feed and without a 0
 pub record CheckpointsAreLines : Type 0 where
-  pub headers : (format next vars waiting : ℕ) → IsCheckpointFormat format → Is32Bit next → Is32Bit vars → Is32Bit waiting
-      → IsOneLine (checkpoint_header_line format next vars waiting)
-  pub cells : (name : Option (List ℕ)) (c : Cell) → FitsCell name c → IsOneLine (cell_line name c)
-  pub blocks : (names : List Named) (ticket : ℕ) (block : Block) (cause : Option KeptCause) (label : List ℕ) (d : Option Delivered)
-      → FitsWaiting names ticket block cause label d
-      → IsOneLine (waiting_line ticket block.text cause label d)
+  pub headers : (h : CheckpointHeader) → FitsCheckpointHeader h → IsOneLine (line_of_checkpoint_header h)
+  pub cells : (c : Option (List ℕ) × Cell) → FitsNamedCell c → IsOneLine (line_of_cell c)
+  pub blocks : (names : List Named) (w : WaitingBlock) → FitsWaitingBlock names w → IsOneLine (line_of_waiting w)
 
 -- each line of a history begins with `{`
 abbrev pub LinesBeginWithBraces : Type 0
@@ -49,10 +45,9 @@ LinesBeginWithBraces =
 -- and so does each line of a checkpoint
 abbrev pub CheckpointsBeginWithBraces : Type 0
 CheckpointsBeginWithBraces =
-    ((format next vars waiting : ℕ) → BeginsWithBrace (checkpoint_header_line format next vars waiting))
-    × ((name : Option (List ℕ)) (c : Cell) → BeginsWithBrace (cell_line name c))
-    × ((ticket : ℕ) (text : List ℕ) (cause : Option KeptCause) (label : List ℕ) (d : Option Delivered)
-    → BeginsWithBrace (waiting_line ticket text cause label d))
+    ((h : CheckpointHeader) → BeginsWithBrace (line_of_checkpoint_header h))
+    × ((c : Option (List ℕ) × Cell) → BeginsWithBrace (line_of_cell c))
+    × ((w : WaitingBlock) → BeginsWithBrace (line_of_waiting w))
 
 -- the numbers of a history are fixed by its text
 abbrev pub NumbersAreFixed : Type 0

@@ -18,9 +18,9 @@ use Rattle.stm_history.specs.Judgement.{AreVariables, AreVariablesFrom, AreEvent
 use Rattle.stm_history_text.specs.Starts.{Start, delivery_of_block}
 use Rattle.stm_event_lines.specs.Lines.{IsFormat, event_line, header_line, variable_line}
 use Rattle.stm_event_lines.specs.CheckpointLines.{FitsCell, FitsName, IsCheckpointFormat, cell_line, checkpoint_header_line}
-use Rattle.stm_history.proofs.Braces.{event_brace, header_brace, variable_brace, checkpoints_begin_with_braces}
+use Rattle.stm_history.proofs.Braces.{event_brace, header_brace, variable_brace}
 use Rattle.stm_history.proofs.WrittenIsTaken.{few_variables}
-use Rattle.stm_event_lines.proofs.Checkpoints.{cell_one_line, checkpoint_header_one_line, waiting_one_line}
+use Rattle.stm_event_lines.proofs.Checkpoints.{cell_brace, cell_one_line, checkpoint_header_brace, checkpoint_header_one_line, waiting_brace, waiting_one_line}
 use Rattle.stm_event_lines.proofs.ReadsBack.{event_one_line, header_one_line, variable_one_line}
 use Rattle.stm_journal.specs.Journal.{most_batch}
 use Rattle.stm_journal.specs.Text.{whole_count, IsWhole}
@@ -77,13 +77,13 @@ IsWhole-cells i names [] known fit = refl
 IsWhole-cells i names (c ∷ cs) known fit =
     let f = fit.0 in
     let named : FitsCell (name_numbered i names) c = (name_fits i names known.named, f.1, f.2, f.3) in
-    IsWhole-line (cell_line (name_numbered i names) c) (cell_lines_from (i + 1) names cs) (checkpoints_begin_with_braces.1 (name_numbered i names) c)
+    IsWhole-line (cell_line (name_numbered i names) c) (cell_lines_from (i + 1) names cs) (cell_brace (name_numbered i names) c)
     (cell_one_line (name_numbered i names) c named) (IsWhole-cells (i + 1) names cs known fit.1)
 
 IsWhole-blocks : (names : List Named) (blocks : List CheckpointBlock) → FitBlocks names blocks → IsWhole (block_lines blocks)
 IsWhole-blocks names [] fit = refl
 IsWhole-blocks names (b ∷ bs) fit =
-    IsWhole-line (block_line b) (block_lines bs) (checkpoints_begin_with_braces.2 b.ticket b.waiting.block.text b.cause b.label (delivery_of_block b)) (waiting_one_line names b.ticket b.waiting.block b.cause b.label (delivery_of_block b) fit.0)
+    IsWhole-line (block_line b) (block_lines bs) (waiting_brace b.ticket b.waiting.block.text b.cause b.label (delivery_of_block b)) (waiting_one_line names b.ticket b.waiting.block b.cause b.label (delivery_of_block b) fit.0)
     (IsWhole-blocks names bs fit.1)
 
 IsWhole-checkpoint : (format : ℕ) (c : CheckpointView) → IsCheckpointFormat format → CheckpointFits c → IsWhole (checkpoint_text format (length c.blocks) c)
@@ -93,7 +93,7 @@ IsWhole-checkpoint format c known fits =
     let header = checkpoint_header_one_line format c.next (length c.store) (length c.blocks) known (omega (arith, is.tickets)) cells (omega (arith, is.few)) in
     IsWhole-append (cells_text format c.next (length c.store) (length c.blocks) c.names c.store) (block_lines c.blocks)
     (IsWhole-line (checkpoint_header_line format c.next (length c.store) (length c.blocks)) (cell_lines c.names c.store)
-    (checkpoints_begin_with_braces.0 format c.next (length c.store) (length c.blocks)) header (IsWhole-cells 0 c.names c.store fits.known fits.cells))
+    (checkpoint_header_brace format c.next (length c.store) (length c.blocks)) header (IsWhole-cells 0 c.names c.store fits.known fits.cells))
     (IsWhole-blocks c.names c.blocks fits.blocks)
 
 pub IsWhole-start : (format : ℕ) (table : List Declared) (o : Option CheckpointView) → FormatFits format o → FitsBefore table o → IsWhole (text_before format table o)

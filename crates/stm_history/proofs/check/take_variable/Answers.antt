@@ -11,4 +11,4 @@ returns-in-Ok-clause-refused c =
     let v = c.in-Ok.variable in
     let refused : RefusedAs {A = ℕ} NoMemory (declare_refusal c.args.table (declared v).name v.kind v.value) (Err c.in-Err.error) =
     subst (λ (n : List ℕ). RefusedAs {A = ℕ} NoMemory (declare_refusal c.args.table n v.kind v.value) (Err c.in-Err.error)) c.deref.ensures c.in-Err.ensures.refused in
-    rw c.declare_refused.ensures (declare_fault c.args.format c.args.vars c.args.table (declared v) c.args.line.now c.in-Err.error c.in-Ok.ensures.ok c.in-Ok.ensures.fits refused)
+    rw c.declare_refused.ensures (declare_fault c.args.format c.args.vars c.args.table (declared v) c.args.line.now c.in-Err.error c.in-Ok.ensures.1 c.in-Ok.ensures.0 refused)
