@@ -15,11 +15,11 @@ use Rattle.stm_event_lines.specs.Fits.{FitsHeader, FitsNames, FitsVariable}
 use Rattle.stm_event_lines.specs.Lines.{event_line, line_of_header, variable_line}
 use Rattle.stm_event_lines.specs.Variables.{declared}
 
--- What reading the line returns, where `seen` is what the result is to contracts: something that fits and has this text; or the line is
--- bad only if it is the text of nothing that fits. Memory may run out for any line.
-abbrev pub ReadsAs : {A B : Type 0} → (A → B) → (B → Type 0) → (B → List ℕ) → List ℕ → Result A LineError → Type 0
+-- What reading the line returns: something that fits and whose text is the line, where `seen` is how contracts see it. The line is bad
+-- only if it is the text of nothing that fits; memory may run out for any line.
+abbrev pub ReadsAs : {B A : Type 0} → (A → B) → (B → Type 0) → (B → List ℕ) → List ℕ → Result A LineError → Type 0
 ReadsAs seen Fits text line (Ok x) = Fits (seen x) × (text (seen x) ≡ line)
-ReadsAs {A} {B} seen Fits text line (Err e) = e ≡ Bad → (y : B) → Fits y → text y ≢ line
+ReadsAs {B} seen Fits text line (Err e) = e ≡ Bad → (y : B) → Fits y → text y ≢ line
 
 -- an event over these names is read
 abbrev pub ReadsEvent : List Named → List ℕ → Result Event LineError → Type 0
@@ -45,7 +45,7 @@ ReadsCell line result = ReadsAs cell_parts FitsNamedCell line_of_cell line resul
 abbrev pub ReadsWaiting : List Named → List ℕ → Result WaitingBlock LineError → Type 0
 ReadsWaiting known line result = ReadsAs (λ (w : WaitingBlock). w) (FitsWaitingBlock known) line_of_waiting line result
 
--- As what the line can be read, if its JSON may be written in another way: as something that fits; and if the line is the text of
--- something that fits, as just that.
+-- What the line can be read as, if its JSON may be written in another way: something that fits; and if the line is the text of something
+-- that fits, then just that.
 abbrev pub CanBeReadAs : {B : Type 0} → (B → Type 0) → (B → List ℕ) → List ℕ → Option B → Type 0
 CanBeReadAs {B} Fits text line read = IfSome read Fits × ((y : B) → Fits y → text y ≡ line → read ≡ Some y)
