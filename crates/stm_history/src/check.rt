@@ -446,7 +446,7 @@ impl Checker {
     /// Judges where the bytes end.
     pub(crate) fn end(&self) -> Result<Legal, HistoryFault>
         requires { (taken : List ℕ) × Reached self.now.stage self.now.whole self.now.line.items taken }
-        ensures ok { IfOk result (λ n. (taken : List ℕ)
+        ensures done { IfOk result (λ n. (taken : List ℕ)
             → Reached self.now.stage self.now.whole self.now.line.items taken
             → IsHistory taken n) }
         ensures fault { IfErr result (λ e. (taken : List ℕ)
@@ -589,7 +589,7 @@ pub(crate) fn read_all<R: Read>(checker: &mut Checker, reader: &mut R) -> Result
 /// Judges the bytes that the reader has left, before any of which was taken.
 fn check_rest<R: Read>(checker: &mut Checker, reader: &mut R) -> Result<Legal, HistoryFault>
     requires { Reached checker.old.stage checker.old.whole checker.old.line.items [] }
-    ensures ok { IfOk result (λ n. IfSome (R.remaining reader.old) (λ bytes. IsHistory bytes n)) }
+    ensures done { IfOk result (λ n. IfSome (R.remaining reader.old) (λ bytes. IsHistory bytes n)) }
     ensures fault { IfErr result (λ e.
         IfSome (R.remaining reader.old) (λ bytes. ReportsFault e bytes)) }
 {
@@ -603,7 +603,7 @@ fn check_rest<R: Read>(checker: &mut Checker, reader: &mut R) -> Result<Legal, H
 /// than 1,048,577 bytes are kept, and the reader is called 4,294,967,295 times at most. `ReadFault` if the reader fails.
 pub fn check_history<R: Read>(alloc: Global, reader: &mut R) -> Result<Legal, HistoryFault>
     // The bytes are the text of a legal history, and the numbers are its own.
-    ensures ok { IfOk result (λ n. IfSome (R.remaining reader.old) (λ bytes. IsHistory bytes n)) }
+    ensures done { IfOk result (λ n. IfSome (R.remaining reader.old) (λ bytes. IsHistory bytes n)) }
     // Otherwise the first fault of the bytes is reported.
     ensures fault { IfErr result (λ e.
         IfSome (R.remaining reader.old) (λ bytes. ReportsFault e bytes)) }
@@ -618,7 +618,7 @@ pub fn check_history_with<R: Read>(
     reader: &mut R,
 ) -> Result<Legal, HistoryFault>
     // The bytes are the text of a legal history, and the numbers are its own.
-    ensures ok { IfOk result (λ n. IfSome (R.remaining reader.old) (λ bytes. IsHistory bytes n)) }
+    ensures done { IfOk result (λ n. IfSome (R.remaining reader.old) (λ bytes. IsHistory bytes n)) }
     // Otherwise the first fault of the bytes is reported.
     ensures fault { IfErr result (λ e.
         IfSome (R.remaining reader.old) (λ bytes. ReportsFault e bytes)) }

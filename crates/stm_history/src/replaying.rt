@@ -38,7 +38,7 @@ fn step_all(replayer: &mut Replayer, history: &[Event]) -> Result<(), HistoryFau
 /// Judges a list of events over a table, by the present rule. `NotLegal` counts the events from 1.
 pub fn replay(alloc: Global, table: &Table, history: &[Event]) -> Result<Legal, HistoryFault>
     // The list is legal, and the numbers are its own.
-    ensures ok { IfOk result (λ n. IsLegal table.now history.now
+    ensures done { IfOk result (λ n. IsLegal table.now history.now
         × (n ≡ numbers table.now history.now)) }
     // Otherwise the first event that isn't allowed is reported.
     ensures fault { IfErr result (λ e. IsFirstIllegal e table.now history.now) }

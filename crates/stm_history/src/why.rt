@@ -31,7 +31,7 @@ fn take_all(checker: &mut Checker, bytes: &[u8]) -> Result<(), HistoryFault>
 /// Judges the bytes. After an error the checker has how many of them are whole lines that were accepted.
 fn judge(checker: &mut Checker, bytes: &[u8]) -> Result<Legal, HistoryFault>
     requires { Reached checker.old.stage checker.old.whole checker.old.line.items [] }
-    ensures ok { IfOk result (λ n. IsHistory bytes.now n) }
+    ensures done { IfOk result (λ n. IsHistory bytes.now n) }
     ensures fault { IfErr result (λ e. ReportsFault e bytes.now) }
     ensures stops { IfErr result (λ e. (e ≢ HistoryFault.NoMemory) → StopsAt e checker.new.whole bytes.now) }
 {
@@ -165,7 +165,7 @@ fn reason_for(
 
 /// Judges the bytes from their beginning. With a fault comes how many of them are whole lines that were accepted.
 fn judge_all(alloc: Global, seed: Seed, bytes: &[u8]) -> Result<Legal, (HistoryFault, usize)>
-    ensures ok { IfOk result (λ n. IsHistory bytes.now n) }
+    ensures done { IfOk result (λ n. IsHistory bytes.now n) }
     ensures fault { IfErr result (λ e. ReportsFault e.0 bytes.now) }
     ensures stops { IfErr result (λ e. (e.0 ≢ HistoryFault.NoMemory) → StopsAt e.0 e.1 bytes.now) }
 {

@@ -5,7 +5,7 @@ use Rattle.stm_storm.proofs.FailedReplays.{refused_is_illegal}
 use Rattle.stm_storm.proofs.replaying.judge.Goals as goal
 
 pub returns-in-Ok : goal.returns-in-Ok
-returns-in-Ok c = (subst (λ (events : List Event). IsLegal c.args.table.now events) c.history.ensures.history c.in-Ok.ensures.ok.0, c.requires)
+returns-in-Ok c = (subst (λ (events : List Event). IsLegal c.args.table.now events) c.history.ensures.history c.in-Ok.ensures.done.0, c.requires)
 
 pub returns-in-Err-NotLegal : goal.returns-in-Err-NotLegal
 returns-in-Err-NotLegal c =

@@ -29,8 +29,8 @@ returns-in-AtCells-clause-fault c = λ taken h. ends_early _ _ _ taken BadHeader
 pub returns-in-AtBlocks-clause-fault : goal.returns-in-AtBlocks-clause-fault
 returns-in-AtBlocks-clause-fault c = λ taken h. ends_early _ _ _ taken BadHeader (λ p i. blocks_strange _ _ _ _ _ p c.in-AtBlocks.is i) h (inr refl)
 
-pub returns-in-Running-clause-ok : goal.returns-in-Running-clause-ok
-returns-in-Running-clause-ok c = λ taken h.
+pub returns-in-Running-clause-done : goal.returns-in-Running-clause-done
+returns-in-Running-clause-done c = λ taken h.
     let zero : length c.args.self.now.line.items ≡ 0 = search rules in
     let none : c.args.self.now.line.items ≡ [] = no_bytes c.args.self.now.line.items zero in
     let r = subst (λ (s : Stage). Reached s c.args.self.now.whole c.args.self.now.line.items taken) c.in-Running.is h in
