@@ -1,6 +1,7 @@
 -- The file of a history: nothing before its first batch, and then exactly the text of docs/HISTORY.md.
-use Rattle.std.specs.Prelude.{◌≡◌, ◌≢◌, ◌⊎◌, ⊤, ◌≤◌, ◌<◌, ◌+◌, ◌^◌, Option, Some, None, ℕ, Bool, true, false, IsTrue, List, [], ◌∷◌, ◌++◌, length, take, drop, codes, option_copied, IfSome, Result, Ok, Err, IsErr, IsErrOf}
+use Rattle.std.specs.Prelude.{◌≡◌, ◌≢◌, ◌⊎◌, ⊤, ◌≤◌, ◌<◌, ◌+◌, ◌^◌, Option, Some, None, ℕ, Bool, true, false, IsTrue, List, [], ◌∷◌, ◌++◌, length, take, drop, codes, option_copied, IfSome, Result, Ok, Err, IsErrOf}
 use Rattle.std.specs.Borrow.{Bor}
+use Rattle.stm_terms.specs.UnlessNoMemory.{AnswersUnless}
 use Rattle.stm_store.specs.Tables.{Declared}
 use Rattle.stm_events.specs.declared.event.Event.{Event}
 use Rattle.stm_events.specs.SlowDesk.{Slow, after}
@@ -17,7 +18,7 @@ use Rattle.stm_history.specs.declared.loading.Loaded.{Loaded}
 use Rattle.stm_journal.specs.declared.sync_mode.SyncMode.{SyncMode}
 use Rattle.stm_journal.specs.declared.sync_mode.SyncMode.TheVariants.{Full, Sector, Append, Never}
 use Rattle.stm_journal.specs.declared.error.JournalError.{JournalError}
-use Rattle.stm_journal.specs.declared.error.JournalError.TheVariants.{Failed, NoSpace, Full as FullFile, TooLong, TornTooLong}
+use Rattle.stm_journal.specs.declared.error.JournalError.TheVariants.{Failed, NoMemory, NoSpace, Full as FullFile, TooLong, TornTooLong}
 use Rattle.stm_journal.specs.declared.replace.ReplaceError.{ReplaceError}
 use Rattle.stm_journal.specs.declared.replace.ReplaceError.TheVariants.{Refused, Unfinished}
 use Rattle.stm_journal.specs.Device.{Own}
@@ -186,9 +187,10 @@ pub record LeavesRecording {D : Type 0} (disk : Disk D) (old new : HistoryFile D
   -- no other file, unless the crash tears the byte that opens the first batch
   pub own : LeavesOwn disk old new start events
 
--- a batch that is too long is refused before anything is written
+-- a batch that is too long is refused before anything is written: as `TooLong`, unless memory runs out
 abbrev pub RefusesLongEvents : {D : Type 0} → HistoryFile D → HistoryFile D → Start → List Event → Result (Unit {0}) JournalError → Type 0
-RefusesLongEvents old new start events result = most_batch < length (batch_text old.begun start events) → IsErr result × (new ≡ old)
+RefusesLongEvents old new start events result =
+    most_batch < length (batch_text old.begun start events) → AnswersUnless NoMemory (λ u. u) result (Err TooLong) × (new ≡ old)
 
 -- The call fails only if the disk does, if memory runs out, or if the batch or the file is too long.
 abbrev pub RecordsUnless : {D : Type 0} → Disk D → HistoryFile D → HistoryFile D → Start → List Event → Result (Unit {0}) JournalError → Type 0
