@@ -1,5 +1,5 @@
 -- The cells of a store: what a block may rest on, when a verdict fits them, and what applying it does to them.
-use Rattle.std.specs.Prelude.{⊤, ◌≡◌, ℕ, ◌+◌, ◌-◌, ◌^◌, ◌<◌, ◌≤◌, min, Bool, false, not, if◌then◌else◌, List, [], ◌∷◌, ◌++◌, Option, Some, None, map, filter, length, slice_set, slice_get, option_map}
+use Rattle.std.specs.Prelude.{⊤, ◌≡◌, ℕ, ◌+◌, ◌-◌, ◌^◌, ◌<◌, ◌≤◌, min, Bool, false, not, if◌then◌else◌, List, [], ◌∷◌, ◌++◌, Option, Some, None, Result, Ok, Err, map, filter, length, slice_set, slice_get, option_map}
 use Rattle.stm_terms.specs.declared.kinds.Ty.{Ty}
 use Rattle.stm_terms.specs.declared.values.Ref.{Ref}
 use Rattle.stm_terms.specs.declared.values.Ref.TheVariants.{Old, New}
@@ -13,6 +13,8 @@ use Rattle.stm_terms.specs.Value.{same_value}
 use Rattle.stm_terms.specs.Typing.{TypeEnv, type_of, Rising}
 use Rattle.stm_store.specs.declared.cell.Cell.{Cell}
 use Rattle.stm_store.specs.declared.ready.Applied.{Applied}
+use Rattle.stm_store.specs.declared.store.StoreError.{StoreError}
+use Rattle.stm_store.specs.declared.store.StoreError.TheVariants.{NotStore, NoMemory}
 
 -- how many variables a table may declare, and a store may have
 abbrev pub most_cells : ℕ
@@ -43,6 +45,12 @@ pub record IsStore (cells : List (Ty × Value)) : Type 0 where
   pub small : length cells ≤ most_cells
   pub typed : StoreIsTyped cells
   pub low : StoreHasAtMost8Refs cells
+
+-- the cells become a store; or they are none; or they are one, and memory ran out
+abbrev pub MakesStore : List Cell → Result (List Cell) StoreError → Type 0
+MakesStore cells (Ok store) = store ≡ cells
+MakesStore cells (Err NotStore) = IsStore (plains cells) → ⊥
+MakesStore cells (Err NoMemory) = IsStore (plains cells)
 
 -- these variables exist with these types
 abbrev pub Covers : List (Ty × Value) → List (ℕ × Ty) → Type 0

@@ -1,11 +1,10 @@
 //! Whether a verdict can be applied to a store.
 
-ghost use Rattle.std.specs.Prelude.{◌≡◌, [], is_some};
+ghost use Rattle.std.specs.Prelude.{◌≡◌, is_some};
 ghost use Rattle.stm_terms.specs.Typing.{type_of, kind_of};
 ghost use Rattle.stm_store.specs.Cells.{kinds_of, plains};
 ghost use Rattle.stm_store.specs.FitsDecision.{has_type, rise_from, making, writes_fit, news_fit, fits_decision};
 
-use crate::cell::Cell;
 use crate::cell_list::CellList;
 use crate::covers::kind_at;
 use crate::types::{plain_type, refers_to};
@@ -65,18 +64,6 @@ fn news_hold(cells: &CellList, news: &[(Ty, Value)]) -> bool
 {
     for (kind, value) in news {
         if !(kind.refs <= Ty::MOST_REFS && value_has(cells, news, *value, *kind)) {
-            return false;
-        }
-    }
-    true
-}
-
-/// Whether each of these cells has a value of its type, which has at most 8 `TVar`.
-pub(crate) fn cells_hold(cells: &CellList, these: &[Cell]) -> bool
-    ensures { result ≡ news_fit (kinds_of (plains cells.now)) (making []) (plains these.now) }
-{
-    for cell in these {
-        if !(cell.kind.refs <= Ty::MOST_REFS && value_has(cells, &[], cell.value, cell.kind)) {
             return false;
         }
     }

@@ -1,9 +1,9 @@
 //! The store.
 
-ghost use Rattle.std.specs.Prelude.{◌≡◌, ◌+◌, ◌<◌, ◌≤◌, ◌↔◌, Some, length, slice_get, option_map, IsTrue, IfOk, IfErr, OnOk, OnErr, IsErrOf};
+ghost use Rattle.std.specs.Prelude.{◌≡◌, ◌+◌, ◌<◌, ◌≤◌, ◌↔◌, Some, length, slice_get, option_map, IsTrue, IfOk, IfErr, OnOk, OnErr};
 ghost use Rattle.std.specs.List.Sorted.{IsStrictlyIncreasing};
 ghost use Rattle.stm_terms.specs.Changes.{cell_value};
-ghost use Rattle.stm_store.specs.Cells.{most_cells, IsStore, Covers, Fits, IsApplied, kinds_of, plains, changed_by, made_by};
+ghost use Rattle.stm_store.specs.Cells.{most_cells, IsStore, MakesStore, Covers, Fits, IsApplied, kinds_of, plains, changed_by, made_by};
 ghost use Rattle.stm_store.specs.Applying.{HasRoomFor, AppliesVerdict, PreparesVerdict};
 ghost use Rattle.stm_store.specs.Tables.{opened};
 
@@ -12,10 +12,11 @@ use crate::cell::Cell;
 use crate::cell_list::CellList;
 use crate::changed_variables::changed_variables;
 use crate::covers::covers;
-use crate::fits::{cells_hold, fits};
+use crate::fits::fits;
 use crate::frozen::Frozen;
 use crate::ready::{Applied, ApplyError, Ready};
 use crate::table::Table;
+use crate::types::are_typed;
 use std::alloc::{AllocError, Global};
 use std::marker::Model;
 use stm_terms::NoMemory;
@@ -116,20 +117,16 @@ impl Store {
         self.cells.get(id as usize).count
     }
 
-    /// A store of these cells.
+    /// A store of these cells. Whether they are one is tested before memory is taken.
     pub fn of_cells(alloc: Global, cells: Vec<Cell>) -> Result<Store, StoreError>
-        ensures cells { IfOk result (λ s. s ≡ cells.items) }
-        ensures refused { IsErrOf result StoreError.NotStore → IsStore (plains cells.items) → ⊥ }
+        ensures { MakesStore cells.items result }
     {
-        if cells.len() > Store::LIMIT {
+        if cells.len() > Store::LIMIT || !are_typed(&cells) {
             return Err(StoreError::NotStore);
         }
         let mut list = CellList::empty(alloc);
         for cell in &cells {
             list.push(*cell)?;
-        }
-        if !cells_hold(&list, &cells) {
-            return Err(StoreError::NotStore);
         }
         Ok(Store { cells: list })
     }
