@@ -4,7 +4,8 @@ use Rattle.std.proofs.lemmas.List.Elements.{All-nil, All-cons, All-from_recursio
 use Rattle.std.specs.Prelude.{All}
 use Rattle.stm_terms.specs.declared.expr.Op.{Op}
 use Rattle.stm_terms.specs.declared.expr.Op.TheVariants as op
-use Rattle.stm_terms.specs.ParsedAst.{RawTerm, bin, RawAct, return}
+use Rattle.stm_terms.specs.declared.raw.Span.{Span}
+use Rattle.stm_terms.specs.ParsedAst.{RawTerm, name, bin, RawAct, return}
 use Rattle.stm_parse.specs.declared.token.Mark.{Mark}
 use Rattle.stm_parse.specs.declared.token.Mark.TheVariants as mark
 use Rattle.stm_parse.specs.declared.token.TokenKind.TheVariants as tok
@@ -14,13 +15,13 @@ use Rattle.stm_parse.specs.declared.cursor.Grouping.TheVariants as grouping
 use Rattle.stm_parse.specs.Grammar.{At, at, operator_mark, operator_of, grouping_of, widest, is_name, is_bracketed, IsExpression, is_atom, is_tier, IsTail, no_more, to_left, not_chained, to_right, is_return, IsBlock}
 use Rattle.stm_parse.specs.Faults.{IsText}
 use Rattle.stm_parse.specs.Descent.{block_reader, whole, action_at, inside_act, atom_at, one_level_inside, tier_with, step_from, tail_from, tails}
-use Rattle.stm_parse.specs.Laws.{name_at, lexeme, two_operators, Signed, products, sums, comparisons, conjunctions, disjunctions, ToLeft, ToRight, NotChained, Tighter, ProductsGroupToTheLeft, SumsGroupToTheLeft, ComparisonsAreNotChained, ConjunctionsGroupToTheRight, DisjunctionsGroupToTheRight, ProductsBindTightest, SumsBindTighter, ComparisonsBindTighter, ConjunctionsBindTighter}
+use Rattle.stm_parse.specs.Laws.{lexeme, two_operators, Signed, products, sums, comparisons, conjunctions, disjunctions, ToLeft, ToRight, NotChained, Tighter, ProductsGroupToTheLeft, SumsGroupToTheLeft, ComparisonsAreNotChained, ConjunctionsGroupToTheRight, DisjunctionsGroupToTheRight, ProductsBindTightest, SumsBindTighter, ComparisonsBindTighter, ConjunctionsBindTighter}
 use Rattle.stm_parse.proofs.WholeTextRead.{good_block, only}
 
 -- an operand, as an expression of tier k
-atom : (k d a a' : ℕ) → IsExpression k d (at d (lexeme tok.Name a a') ∷ []) (name_at a a')
-atom zero d a a' = is_atom (is_name refl)
-atom (suc k) d a a' = is_tier (atom k d a a') no_more
+atom : (k d : ℕ) (a : Span) → IsExpression k d (at d (lexeme tok.Name a) ∷ []) (name a)
+atom zero d a = is_atom (is_name refl)
+atom (suc k) d a = is_tier (atom k d a) no_more
 
 -- an expression of a tier is one of each wider tier
 rise : (n j k d : ℕ) (us : List At) (e : RawTerm) → n + j ≡ k → IsExpression j d us e → IsExpression k d us e
@@ -36,60 +37,60 @@ one k d x o us a b q h = by (grouping_of k) refl
     by grouping.NotChained g = not_chained g q h
     by grouping.ToRight g = to_right g q (subst (λ l. IsExpression (suc k) d l b) (append-nil us) (is_tier h no_more))
 
-in_brackets : (m n : Mark) (r a a' b b' c c' i j : ℕ) (e : RawTerm) → IsExpression widest 1 (at 1 (lexeme tok.Name a a') ∷ at 1 (lexeme (tok.Mark m) i j) ∷ at 1 (lexeme tok.Name b b') ∷ at 1 (lexeme (tok.Mark n) i j) ∷ at 1 (lexeme tok.Name c c') ∷ []) e → IsText IsBlock (two_operators m n r a a' b b' c c' i j) (return e)
-in_brackets m n r a a' b b' c c' i j e h =
-    (_, (r, is_return {x = lexeme (tok.Mark mark.Return) r j} refl (is_bracketed {x = lexeme (tok.Mark mark.LParen) i j} (lexeme (tok.Mark mark.RParen) i j) refl h refl)), ((omega arith, omega arith, omega arith), ((omega arith, omega arith, omega arith), ((omega arith, omega arith, omega arith), ((omega arith, omega arith, omega arith), ((omega arith, omega arith, omega arith), ((omega arith, omega arith, omega arith), ((omega arith, omega arith, omega arith), ((omega arith, omega arith, omega arith), tt)))))))), refl)
+in_brackets : (m n : Mark) (place : ℕ → Span) (e : RawTerm) → IsExpression widest 1 (at 1 (lexeme tok.Name (place 2)) ∷ at 1 (lexeme (tok.Mark m) (place 3)) ∷ at 1 (lexeme tok.Name (place 4)) ∷ at 1 (lexeme (tok.Mark n) (place 5)) ∷ at 1 (lexeme tok.Name (place 6)) ∷ []) e → IsText IsBlock (two_operators m n place) (return e)
+in_brackets m n place e h =
+    (_, ((place 0).start, is_return {x = lexeme (tok.Mark mark.Return) (place 0)} refl (is_bracketed {x = lexeme (tok.Mark mark.LParen) (place 1)} (lexeme (tok.Mark mark.RParen) (place 7)) refl h refl)), ((omega arith, omega arith, omega arith), ((omega arith, omega arith, omega arith), ((omega arith, omega arith, omega arith), ((omega arith, omega arith, omega arith), ((omega arith, omega arith, omega arith), ((omega arith, omega arith, omega arith), ((omega arith, omega arith, omega arith), ((omega arith, omega arith, omega arith), tt)))))))), refl)
 
 -- the operator is of tier k
 abbrev IsOf : ℕ → Signed → Type 0
 IsOf k x = operator_mark x.0 ≡ Some (k, x.1)
 
 to_the_left : (k : ℕ) (x y : Signed) → k < widest → grouping_of k ≡ grouping.ToLeft → IsOf k x → IsOf k y → ToLeft x y
-to_the_left k x y l g p q r a a' b b' c c' i j =
-    in_brackets x.0 y.0 r a a' b b' c c' i j _
-    (rise (4 - k) (suc k) widest 1 _ _ (omega arith) (is_tier (atom k 1 a a') (to_left g p (atom k 1 b b') (to_left g q (atom k 1 c c') no_more))))
+to_the_left k x y l g p q place =
+    in_brackets x.0 y.0 place _
+    (rise (4 - k) (suc k) widest 1 _ _ (omega arith) (is_tier (atom k 1 (place 2)) (to_left g p (atom k 1 (place 4)) (to_left g q (atom k 1 (place 6)) no_more))))
 
 to_the_right : (k : ℕ) (x y : Signed) → k < widest → grouping_of k ≡ grouping.ToRight → IsOf k x → IsOf k y → ToRight x y
-to_the_right k x y l g p q r a a' b b' c c' i j =
-    in_brackets x.0 y.0 r a a' b b' c c' i j _
-    (rise (4 - k) (suc k) widest 1 _ _ (omega arith) (is_tier (atom k 1 a a') (to_right g p (is_tier (atom k 1 b b') (to_right g q (is_tier (atom k 1 c c') no_more))))))
+to_the_right k x y l g p q place =
+    in_brackets x.0 y.0 place _
+    (rise (4 - k) (suc k) widest 1 _ _ (omega arith) (is_tier (atom k 1 (place 2)) (to_right g p (is_tier (atom k 1 (place 4)) (to_right g q (is_tier (atom k 1 (place 6)) no_more))))))
 
 -- two operands of an operator of tier k, as an expression of a wider tier
-pair : (k n : ℕ) (x : Signed) (a a' b b' i j : ℕ) → k < n → IsOf k x → IsExpression n 1 (at 1 (lexeme tok.Name a a') ∷ at 1 (lexeme (tok.Mark x.0) i j) ∷ at 1 (lexeme tok.Name b b') ∷ []) (bin x.1 (name_at a a') (name_at b b'))
-pair k n x a a' b b' i j l p =
-    rise (n - suc k) (suc k) n 1 _ _ (omega arith) (is_tier (atom k 1 a a') (one k 1 (lexeme (tok.Mark x.0) i j) x.1 (at 1 (lexeme tok.Name b b') ∷ []) (name_at a a') (name_at b b') p (atom k 1 b b')))
+pair : (k n : ℕ) (x : Signed) (a o b : Span) → k < n → IsOf k x → IsExpression n 1 (at 1 (lexeme tok.Name a) ∷ at 1 (lexeme (tok.Mark x.0) o) ∷ at 1 (lexeme tok.Name b) ∷ []) (bin x.1 (name a) (name b))
+pair k n x a o b l p =
+    rise (n - suc k) (suc k) n 1 _ _ (omega arith) (is_tier (atom k 1 a) (one k 1 (lexeme (tok.Mark x.0) o) x.1 (at 1 (lexeme tok.Name b) ∷ []) (name a) (name b) p (atom k 1 b)))
 
 tighter : (k n : ℕ) (x y : Signed) → k < n → n < widest → IsOf k x → IsOf n y → Tighter x y
 tighter k n x y l m p q = (left, right)
   where
     left : ToLeft x y
-    left r a a' b b' c c' i j =
-        in_brackets x.0 y.0 r a a' b b' c c' i j _
-        (rise (4 - n) (suc n) widest 1 _ _ (omega arith) (is_tier (pair k n x a a' b b' i j l p) (one n 1 (lexeme (tok.Mark y.0) i j) y.1 (at 1 (lexeme tok.Name c c') ∷ []) (bin x.1 (name_at a a') (name_at b b')) (name_at c c') q (atom n 1 c c'))))
+    left place =
+        in_brackets x.0 y.0 place _
+        (rise (4 - n) (suc n) widest 1 _ _ (omega arith) (is_tier (pair k n x (place 2) (place 3) (place 4) l p) (one n 1 (lexeme (tok.Mark y.0) (place 5)) y.1 (at 1 (lexeme tok.Name (place 6)) ∷ []) (bin x.1 (name (place 2)) (name (place 4))) (name (place 6)) q (atom n 1 (place 6)))))
 
     right : ToRight y x
-    right r a a' b b' c c' i j =
-        in_brackets y.0 x.0 r a a' b b' c c' i j _
-        (rise (4 - n) (suc n) widest 1 _ _ (omega arith) (is_tier (atom n 1 a a') (one n 1 (lexeme (tok.Mark y.0) i j) y.1 (at 1 (lexeme tok.Name b b') ∷ at 1 (lexeme (tok.Mark x.0) i j) ∷ at 1 (lexeme tok.Name c c') ∷ []) (name_at a a') (bin x.1 (name_at b b') (name_at c c')) q (pair k n x b b' c c' i j l p))))
+    right place =
+        in_brackets y.0 x.0 place _
+        (rise (4 - n) (suc n) widest 1 _ _ (omega arith) (is_tier (atom n 1 (place 2)) (one n 1 (lexeme (tok.Mark y.0) (place 3)) y.1 (at 1 (lexeme tok.Name (place 4)) ∷ at 1 (lexeme (tok.Mark x.0) (place 5)) ∷ at 1 (lexeme tok.Name (place 6)) ∷ []) (name (place 2)) (bin x.1 (name (place 4)) (name (place 6))) q (pair k n x (place 4) (place 5) (place 6) l p))))
 
 -- two signs are not chained, where the descent stops at the second
-unless_read : (x y : Signed) → ((r a a' b b' c c' i j : ℕ) (t : RawAct) → whole block_reader (two_operators x.0 y.0 r a a' b b' c c' i j) ≡ Ok t → ⊥) → NotChained x y
-unless_read x y stops r a a' b b' c c' i j t h = stops r a a' b b' c c' i j t (only block_reader IsBlock good_block (two_operators x.0 y.0 r a a' b b' c c' i j) t h)
+unless_read : (x y : Signed) → ((place : ℕ → Span) (t : RawAct) → whole block_reader (two_operators x.0 y.0 place) ≡ Ok t → ⊥) → NotChained x y
+unless_read x y stops place t h = stops place t (only block_reader IsBlock good_block (two_operators x.0 y.0 place) t h)
 
 -- `==` first
 equal_first : All (NotChained (mark.EqEq, op.Eq)) comparisons
 unfolding action_at inside_act atom_at one_level_inside tier_with step_from tail_from tails
-equal_first = All-from_recursion (NotChained (mark.EqEq, op.Eq)) comparisons (unless_read (mark.EqEq, op.Eq) (mark.EqEq, op.Eq) (λ r a a' b b' c c' i j t e. cc), (unless_read (mark.EqEq, op.Eq) (mark.Lt, op.Lt) (λ r a a' b b' c c' i j t e. cc), (unless_read (mark.EqEq, op.Eq) (mark.Le, op.Le) (λ r a a' b b' c c' i j t e. cc), tt)))
+equal_first = All-from_recursion (NotChained (mark.EqEq, op.Eq)) comparisons (unless_read (mark.EqEq, op.Eq) (mark.EqEq, op.Eq) (λ place t e. cc), (unless_read (mark.EqEq, op.Eq) (mark.Lt, op.Lt) (λ place t e. cc), (unless_read (mark.EqEq, op.Eq) (mark.Le, op.Le) (λ place t e. cc), tt)))
 
 -- `<` first
 below_first : All (NotChained (mark.Lt, op.Lt)) comparisons
 unfolding action_at inside_act atom_at one_level_inside tier_with step_from tail_from tails
-below_first = All-from_recursion (NotChained (mark.Lt, op.Lt)) comparisons (unless_read (mark.Lt, op.Lt) (mark.EqEq, op.Eq) (λ r a a' b b' c c' i j t e. cc), (unless_read (mark.Lt, op.Lt) (mark.Lt, op.Lt) (λ r a a' b b' c c' i j t e. cc), (unless_read (mark.Lt, op.Lt) (mark.Le, op.Le) (λ r a a' b b' c c' i j t e. cc), tt)))
+below_first = All-from_recursion (NotChained (mark.Lt, op.Lt)) comparisons (unless_read (mark.Lt, op.Lt) (mark.EqEq, op.Eq) (λ place t e. cc), (unless_read (mark.Lt, op.Lt) (mark.Lt, op.Lt) (λ place t e. cc), (unless_read (mark.Lt, op.Lt) (mark.Le, op.Le) (λ place t e. cc), tt)))
 
 -- `<=` first
 at_most_first : All (NotChained (mark.Le, op.Le)) comparisons
 unfolding action_at inside_act atom_at one_level_inside tier_with step_from tail_from tails
-at_most_first = All-from_recursion (NotChained (mark.Le, op.Le)) comparisons (unless_read (mark.Le, op.Le) (mark.EqEq, op.Eq) (λ r a a' b b' c c' i j t e. cc), (unless_read (mark.Le, op.Le) (mark.Lt, op.Lt) (λ r a a' b b' c c' i j t e. cc), (unless_read (mark.Le, op.Le) (mark.Le, op.Le) (λ r a a' b b' c c' i j t e. cc), tt)))
+at_most_first = All-from_recursion (NotChained (mark.Le, op.Le)) comparisons (unless_read (mark.Le, op.Le) (mark.EqEq, op.Eq) (λ place t e. cc), (unless_read (mark.Le, op.Le) (mark.Lt, op.Lt) (λ place t e. cc), (unless_read (mark.Le, op.Le) (mark.Le, op.Le) (λ place t e. cc), tt)))
 
 pub comparisons_apart : ComparisonsAreNotChained
 comparisons_apart = All-from_recursion (λ x. All (NotChained x) comparisons) comparisons (equal_first, (below_first, (at_most_first, tt)))

@@ -3,7 +3,8 @@ use Rattle.std.specs.Prelude.{◌≡◌, ◌≢◌, ℕ, List, [], ◌∷◌, �
 use Rattle.stm_terms.specs.declared.expr.Op.{Op}
 use Rattle.stm_terms.specs.declared.expr.Op.TheVariants as op
 use Rattle.stm_terms.specs.declared.kinds.Ty.{Ty}
-use Rattle.stm_terms.specs.ParsedAst.{RawTerm, name, bin, RawAct, return}
+use Rattle.stm_terms.specs.declared.raw.Span.{Span}
+use Rattle.stm_terms.specs.ParsedAst.{name, bin, RawAct, return}
 use Rattle.stm_parse.specs.declared.token.Mark.{Mark}
 use Rattle.stm_parse.specs.declared.token.Mark.TheVariants as mark
 use Rattle.stm_parse.specs.declared.token.TokenKind.{TokenKind}
@@ -105,40 +106,34 @@ disjunctions = (mark.OrOr, op.Or) ∷ []
 abbrev pub EachPair : (Signed → Signed → Type 0) → List Signed → List Signed → Type 0
 EachPair P xs ys = All (λ x. All (P x) ys) xs
 
--- a token
-abbrev pub lexeme : TokenKind → ℕ → ℕ → Lexeme
-lexeme s from to = record { sym = s; start = from; end = to }
+-- a token, by where it stands
+abbrev pub lexeme : TokenKind → Span → Lexeme
+lexeme s span = record { sym = s; start = span.start; end = span.end }
 
--- a name, by its first and its last byte
-abbrev pub name_at : ℕ → ℕ → RawTerm
-name_at from to = name (record { start = from; end = to })
-
--- return ( a o b p c ), wherever its tokens stand
-abbrev pub two_operators : Mark → Mark → ℕ → ℕ → ℕ → ℕ → ℕ → ℕ → ℕ → ℕ → ℕ → List Lexeme
-two_operators o p r a a' b b' c c' i j =
-    lexeme (tok.Mark mark.Return) r j ∷ lexeme (tok.Mark mark.LParen) i j
-    ∷ lexeme tok.Name a a' ∷ lexeme (tok.Mark o) i j ∷ lexeme tok.Name b b' ∷ lexeme (tok.Mark p) i j ∷ lexeme tok.Name c c'
-    ∷ lexeme (tok.Mark mark.RParen) i j ∷ []
+-- return ( a o b p c ), each token at its place, wherever that is
+abbrev pub two_operators : Mark → Mark → (ℕ → Span) → List Lexeme
+two_operators o p place =
+    lexeme (tok.Mark mark.Return) (place 0) ∷ lexeme (tok.Mark mark.LParen) (place 1)
+    ∷ lexeme tok.Name (place 2) ∷ lexeme (tok.Mark o) (place 3) ∷ lexeme tok.Name (place 4)
+    ∷ lexeme (tok.Mark p) (place 5) ∷ lexeme tok.Name (place 6) ∷ lexeme (tok.Mark mark.RParen) (place 7) ∷ []
 
 -- a o b p c is (a o b) p c
 abbrev pub ToLeft : Signed → Signed → Type 0
 ToLeft o p =
-    (r a a' b b' c c' i j : ℕ)
-    → IsText IsBlock (two_operators o.0 p.0 r a a' b b' c c' i j)
-    (return (bin p.1 (bin o.1 (name_at a a') (name_at b b')) (name_at c c')))
+    (place : ℕ → Span)
+    → IsText IsBlock (two_operators o.0 p.0 place)
+    (return (bin p.1 (bin o.1 (name (place 2)) (name (place 4))) (name (place 6))))
 
 -- a o b p c is a o (b p c)
 abbrev pub ToRight : Signed → Signed → Type 0
 ToRight o p =
-    (r a a' b b' c c' i j : ℕ)
-    → IsText IsBlock (two_operators o.0 p.0 r a a' b b' c c' i j)
-    (return (bin o.1 (name_at a a') (bin p.1 (name_at b b') (name_at c c'))))
+    (place : ℕ → Span)
+    → IsText IsBlock (two_operators o.0 p.0 place)
+    (return (bin o.1 (name (place 2)) (bin p.1 (name (place 4)) (name (place 6)))))
 
 -- a o b p c is no text
 abbrev pub NotChained : Signed → Signed → Type 0
-NotChained o p =
-    (r a a' b b' c c' i j : ℕ) (t : RawAct)
-    → IsText IsBlock (two_operators o.0 p.0 r a a' b b' c c' i j) t → ⊥
+NotChained o p = (place : ℕ → Span) (t : RawAct) → IsText IsBlock (two_operators o.0 p.0 place) t → ⊥
 
 -- a o b p c is (a o b) p c, and a p b o c is a p (b o c)
 abbrev pub Tighter : Signed → Signed → Type 0
