@@ -90,3 +90,12 @@ ReadsByGrammar L stands_for view text (Err e) = IsReported L text e
 abbrev pub ReadsEachText : {A X Y : Type 0} → Language A → (List ℕ → A → Y) → (X → Y) → List ℕ → Result X ParseFault → Type 0
 ReadsEachText {A} L stands_for view text result =
     (t : A) → IsTextOf L text t → MatchResult result (λ x. view x ≡ stands_for text t) (λ e. e ≡ fault.NoMemory)
+
+-- what was read, seen by view, is a tree of the text; a fault is the one that is reported
+abbrev pub ReadsTreeByGrammar : {A X : Type 0} → Language A → (X → A) → List ℕ → Result X ParseFault → Type 0
+ReadsTreeByGrammar L view text (Ok x) = IsTextOf L text (view x)
+ReadsTreeByGrammar L view text (Err e) = IsReported L text e
+
+-- each text is read as its one tree, unless memory runs out
+abbrev pub ReadsEachTree : {A X : Type 0} → Language A → (X → A) → List ℕ → Result X ParseFault → Type 0
+ReadsEachTree L view text result = ReadsEachText L (λ _ t. t) view text result

@@ -2,12 +2,12 @@
 
 ghost use Rattle.std.specs.Prelude.{◌≡◌, ◌≢◌, MatchResult, IfOk, IfErr, Err};
 ghost use Rattle.std.specs.Str.{IsAscii};
-ghost use Rattle.stm_terms.specs.ParsedAst.{RawAct, raw_act_of};
+ghost use Rattle.stm_terms.specs.ParsedAst.{raw_act_of};
 ghost use Rattle.stm_terms.specs.UnlessNoMemory.{AnswersUnless};
 ghost use Rattle.stm_parse.specs.Grammar.{IsBlock};
 ghost use Rattle.stm_parse.specs.NameTokens.{NamesOf};
 ghost use Rattle.stm_parse.specs.ParseFunction.{parsed_block, parsed_declaration};
-ghost use Rattle.stm_parse.specs.ParseResult.{LexesWithinLimits, IsTextOf, IsEarly, IsReported, fault_of_failure};
+ghost use Rattle.stm_parse.specs.ParseResult.{LexesWithinLimits, IsEarly, ReadsTreeByGrammar, ReadsEachTree, fault_of_failure};
 ghost use Rattle.stm_parse.specs.Descent.{block_reader, whole};
 ghost use Rattle.stm_parse.specs.DescentResults.{GivesResult};
 
@@ -79,11 +79,9 @@ fn whole_block(alloc: Global, toks: &[Lexeme]) -> Result<RawAction, Failure>
 /// docs/LANGUAGE.md, "Grammar", has the productions, and "Which grammar error is reported" the order of the faults.
 pub fn parse_block(alloc: Global, text: &str) -> Result<Raw, ParseFault>
     // What is read is a text of the tree, and a fault is the one to be reported.
-    ensures right { MatchResult result (λ r. IsTextOf IsBlock text.now r.tree)
-        (λ e. IsReported IsBlock text.now e) }
+    ensures right { ReadsTreeByGrammar IsBlock (λ r. r.tree) text.now result }
     // Each text is read, with its one tree, unless memory runs out.
-    ensures only { (t : RawAct) → IsTextOf IsBlock text.now t
-        → MatchResult result (λ r. r.tree ≡ t) (λ e. e ≡ ParseFault.NoMemory) }
+    ensures only { ReadsEachTree IsBlock (λ r. r.tree) text.now result }
     ensures text { IfOk result (λ r. r.text ≡ text.now) }
     // The answer is a function of the text.
     ensures answer { AnswersUnless ParseFault.NoMemory (λ r. r.tree) result (parsed_block text.now) }

@@ -87,7 +87,9 @@ fn whole_declaration(toks: &[Lexeme]) -> Result<RawDeclaration, Failure>
 ///
 /// docs/LANGUAGE.md, "Grammar", has the productions, and "Which grammar error is reported" the order of the faults.
 pub fn parse_declare(alloc: Global, text: &str) -> Result<Declaration, ParseFault>
+    // What is read is what a tree of the text stands for, and a fault is the one to be reported.
     ensures right { ReadsByGrammar IsDeclaration declaration_in declaration_of text.now result }
+    // Each text is read, as what its one tree stands for, unless memory runs out.
     ensures only { ReadsEachText IsDeclaration declaration_in declaration_of text.now result }
     // The answer is a function of the text.
     ensures answer { AnswersUnless ParseFault.NoMemory declaration_of result

@@ -66,7 +66,9 @@ fn whole_expectation(toks: &[Lexeme]) -> Result<RawExpectation, Failure>
 ///
 /// docs/LANGUAGE.md, "Grammar", has the productions, and "Which grammar error is reported" the order of the faults.
 pub fn parse_expectation(alloc: Global, text: &str) -> Result<Expectation, ParseFault>
+    // What is read is what a tree of the text stands for, and a fault is the one to be reported.
     ensures right { ReadsByGrammar IsExpectation expectation_in expectation_of text.now result }
+    // Each text is read, as what its one tree stands for, unless memory runs out.
     ensures only { ReadsEachText IsExpectation expectation_in expectation_of text.now result }
     // The answer is a function of the text.
     ensures answer { AnswersUnless ParseFault.NoMemory expectation_of result

@@ -1,12 +1,11 @@
 //! A text as a type.
 
-ghost use Rattle.std.specs.Prelude.{◌≡◌, ◌≤◌, MatchResult, IfOk};
+ghost use Rattle.std.specs.Prelude.{◌≤◌, IfOk};
 ghost use Rattle.stm_terms.specs.Limits.{most_refs};
 ghost use Rattle.stm_terms.specs.UnlessNoMemory.{AnswersUnless};
-ghost use Rattle.stm_terms.specs.declared.kinds.Ty.{Ty as AnyType};
 ghost use Rattle.stm_parse.specs.Descent.{whole};
 ghost use Rattle.stm_parse.specs.DescentResults.{GivesResult};
-ghost use Rattle.stm_parse.specs.ParseResult.{IsTextOf, IsReported};
+ghost use Rattle.stm_parse.specs.ParseResult.{ReadsTreeByGrammar, ReadsEachTree};
 ghost use Rattle.stm_parse.specs.TypeFunction.{IsWholeType, type_reader, parsed_type};
 
 use crate::block::{fault_of_failure, lexed};
@@ -35,11 +34,9 @@ fn whole_type(toks: &[Lexeme]) -> Result<Ty, Failure>
 /// docs/LANGUAGE.md, "Grammar", has the productions, and "Which grammar error is reported" the order of the faults.
 pub fn parse_type(alloc: Global, text: &str) -> Result<Ty, ParseFault>
     // What is read is a text of the type, and a fault is the one to be reported.
-    ensures right { MatchResult result (λ t. IsTextOf IsWholeType text.now t)
-        (λ e. IsReported IsWholeType text.now e) }
+    ensures right { ReadsTreeByGrammar IsWholeType (λ t. t) text.now result }
     // Each text is read, with its one type, unless memory runs out.
-    ensures only { (t : AnyType) → IsTextOf IsWholeType text.now t
-        → MatchResult result (λ u. u ≡ t) (λ e. e ≡ ParseFault.NoMemory) }
+    ensures only { ReadsEachTree IsWholeType (λ t. t) text.now result }
     // The answer is a function of the text.
     ensures answer { AnswersUnless ParseFault.NoMemory (λ t. t) result (parsed_type text.now) }
     ensures few { IfOk result (λ t. t.refs ≤ most_refs) }
