@@ -228,7 +228,7 @@ fn piece_at(bytes: &[u8], place: usize) -> Piece
 
 /// The tokens of a text, each with what it is, or the first fault by place.
 ///
-/// The faults are `BadByte`, `BadNumber` and `NameTooLong`.
+/// The faults are `BadByte`, `BadNumber`, `NameTooLong` and `NoMemory`.
 pub fn lexemes(alloc: Global, text: &str) -> Result<Vec<Lexeme>, ParseFault>
     ensures { LexesTo text.now result }
 {
@@ -239,7 +239,7 @@ fn cut_lexemes(alloc: Global, bytes: &[u8]) -> Result<Vec<Lexeme>, ParseFault>
     ensures cuts { MatchResult result (λ v. Lexes bytes.now v.items)
         (λ e. e ≢ ParseFault.NoMemory → tokens_of bytes.now ≡ Err e) }
     ensures classes { IfOk result (λ v. tokens_of bytes.now ≡ Ok (map token_of v.items)) }
-    ensures rise { IfOk result (λ v. SpansRise 0 (length bytes.now) (map token_of v.items)) }
+    ensures rising { IfOk result (λ v. SpansRise 0 (length bytes.now) (map token_of v.items)) }
     ensures names { IfOk result (λ v. NamesOf bytes.now v.items) }
     ensures faults { IfErr result IsTokenFault }
 {

@@ -63,12 +63,12 @@ fn with_classes(alloc: Global, toks: &[Lexeme]) -> Result<Vec<Token>, ParseFault
 
 /// The tokens of a text, or the first fault by place.
 ///
-/// The faults are `BadByte`, `BadNumber` and `NameTooLong`.
+/// The faults are `BadByte`, `BadNumber`, `NameTooLong` and `NoMemory`.
 pub fn tokens(alloc: Global, text: &str) -> Result<Vec<Token>, ParseFault>
     ensures cuts { AnswersUnless ParseFault.NoMemory (λ v. v.items) result (tokens_of text.now) }
     // So each place of the text is between characters.
     ensures ascii { IfOk result (λ v. IsAscii text.now) }
-    ensures rise { IfOk result (λ v. SpansRise 0 (length text.now) v.items) }
+    ensures rising { IfOk result (λ v. SpansRise 0 (length text.now) v.items) }
     ensures faults { IfErr result IsTokenFault }
 {
     let toks = lexemes(alloc, text)?;

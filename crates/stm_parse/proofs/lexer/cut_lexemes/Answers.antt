@@ -31,5 +31,5 @@ returns-clause-names c = seen_names c.args.bytes.now c.loop-place.place c.loop-p
 pub returns-clause-classes : goal.returns-clause-classes
 returns-clause-classes c = seen_classes c.args.bytes.now c.loop-place.place c.loop-place.out.items c.loop-place.invariant.1 c.loop-place-test.false
 
-pub returns-clause-rise : goal.returns-clause-rise
-returns-clause-rise c = seen_rise c.args.bytes.now c.loop-place.place c.loop-place.out.items c.loop-place.invariant.1 c.loop-place.invariant.0
+pub returns-clause-rising : goal.returns-clause-rising
+returns-clause-rising c = seen_rise c.args.bytes.now c.loop-place.place c.loop-place.out.items c.loop-place.invariant.1 c.loop-place.invariant.0

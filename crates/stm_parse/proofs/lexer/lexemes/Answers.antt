@@ -26,4 +26,4 @@ lexed_to bytes (Err e) h classes rise names faults = (faults, h)
 pub returns : goal.returns
 returns c =
     let cut = c.cut_lexemes.ensures in
-    subst (λ b. LexesTo b c.cut_lexemes.result) c.as_bytes.ensures.value (lexed_to c.as_bytes.result.now c.cut_lexemes.result cut.cuts cut.classes cut.rise cut.names cut.faults)
+    subst (λ b. LexesTo b c.cut_lexemes.result) c.as_bytes.ensures.value (lexed_to c.as_bytes.result.now c.cut_lexemes.result cut.cuts cut.classes cut.rising cut.names cut.faults)
