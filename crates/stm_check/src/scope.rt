@@ -22,6 +22,7 @@ pub enum Scope<'a> {
 
 /// How many locals there are.
 pub fn count(locals: &Scope) -> u32
+    // What is kept with each local is right, so the innermost has the highest number.
     requires kept { ScopeIsConsistent locals.now }
     requires room { length (scope locals.now) < 2 ^ 32 }
     ensures { result ≡ length (scope locals.now) }
@@ -55,7 +56,7 @@ fn bits(locals: &Scope) -> u64
     }
 }
 
-/// The bits of the locals and of one more name.
+/// Bits that include those of the locals and that of one more name.
 pub fn bits_with(locals: &Scope, name: &str) -> u64
     requires { ScopeIsConsistent locals.now }
     ensures { HasBits result (name.now ∷ names_of (scope locals.now)) }
@@ -98,7 +99,9 @@ fn walk(locals: &Scope, name: &str) -> Option<(u32, Ty)>
 
 /// The innermost local of a name: its number, counted from the outermost, and its type.
 pub fn find_local(locals: &Scope, name: &str) -> Option<(u32, Ty)>
+    // What is kept with each local is right, so a name whose bit is missing is no local's.
     requires kept { ScopeIsConsistent locals.now }
+    // By this, the type that is returned has few `TVar`s, too.
     requires shallow { ScopeHasFewRefs (scope locals.now) }
     ensures found { result ≡ innermost name.now (scope locals.now) }
     ensures few { IfSome result (λ l. l.1.refs ≤ most_refs + 1) }

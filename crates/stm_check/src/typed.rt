@@ -95,7 +95,7 @@ impl Typed {
         }
     }
 
-    /// What the block does.
+    /// What the block does. The clauses `typed` and `few` hold of every block.
     pub fn action(&self) -> &Action
         ensures action { act_of result.now ≡ self.now.tree }
         ensures typed { action_type (kinds_in self.now.uses) [] self.now.tree

@@ -34,7 +34,8 @@ state_of_life s [] last = state_from s last
 state_of_life s (g ∷ gs) last = state_of_life (checkpoint_state g.checkpoint) gs last
 
 -- What holds of a life: its events are one legal history; the same is observed of the desk as if there had been no checkpoint; the
--- store is that of running all blocks that ever finished alone, one after another; and the headline holds of the whole history.
+-- store is that of running all blocks that ever finished alone and of making all declared variables, one after another; and the headline
+-- holds of the whole history.
 pub record IsOneHistory (s : Slow) (gs : List Stretch) (last : List Event) : Type 0 where
   pub legal : LegalFrom s (events_of_life gs last)
   pub same : observed (state_of_life s gs last) ≡ observed (state_from s (events_of_life gs last))

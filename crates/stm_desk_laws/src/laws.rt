@@ -5,7 +5,8 @@ ghost use Rattle.stm_desk_laws.specs.IntegerRange.{HistoriesStay64Bit, VerdictsA
 ghost use Rattle.stm_desk_laws.specs.Lives.{LivesAreHistories};
 
 /// Over any number of checkpoints and restarts the events of a desk are one legal history, the same can be observed of the desk as if there
-/// had been no checkpoint, and its store is that of running all blocks that ever finished alone, one after another.
+/// had been no checkpoint, and its store is that of running all blocks that ever finished alone and of making all declared variables,
+/// one after another.
 pub fn lives_are_histories()
     ensures { LivesAreHistories }
 {}

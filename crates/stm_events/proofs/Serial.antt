@@ -1,4 +1,4 @@
--- The store is that of running the finished blocks alone, one after another.
+-- The store is that of running the finished blocks alone and of making the declared variables, one after another.
 use Rattle.std.proofs.Common.{◌≡◌, ℕ, List, [], ◌∷◌, ◌++◌, Option, Some, None, refl, sym, ap, ◌∙◌}
 use Rattle.std.specs.Prelude.{IsSomeAnd}
 use Rattle.stm_terms.specs.declared.verdicts.Verdict.{Verdict}

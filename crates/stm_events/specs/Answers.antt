@@ -19,6 +19,7 @@ install_answer store full reads w = (w.block, install_first store full w reads)
 
 -- the refusals of each call, with a history that is full or not, and the answers to each question
 pub record AnswersAlike (s s' : Slow) : Type 0 where
+  -- why each call is refused, if it is
   pub submit : (full : Bool) (block : Block) → submit_refused s full block ≡ submit_refused s' full block
   pub declare : (full : Bool) (name : List ℕ) (kind : Ty) (value : Value)
       → late_declare_refused s full name kind value ≡ late_declare_refused s' full name kind value
@@ -28,12 +29,14 @@ pub record AnswersAlike (s s' : Slow) : Type 0 where
   pub deliver : (full : Bool) (t : ℕ) (reads : List (ℕ × Value))
       → option_map (install_answer s.store full reads) (find_waiter t s.waiters)
       ≡ option_map (install_answer s'.store full reads) (find_waiter t s'.waiters)
+  -- the answers to the questions about a waiting block, and about all of them
   pub standing : (t : ℕ)
       → option_map (standing s.store) (find_waiter t s.waiters) ≡ option_map (standing s'.store) (find_waiter t s'.waiters)
   pub current : (t : ℕ) → option_map is_current (find_waiter t s.waiters) ≡ option_map is_current (find_waiter t s'.waiters)
   pub reads : (t : ℕ) → read_then (find_waiter t s.waiters) ≡ read_then (find_waiter t s'.waiters)
   pub ready : (t : ℕ) → next_ready t s ≡ next_ready t s'
   pub waiting : length s.waiters ≡ length s'.waiters
+  -- the orders of work: what settling and draining do next, what they do in a room, and why they stop there
   pub next : next_what s ≡ next_what s'
   pub settling : (room : ℕ) → settling room s ≡ settling room s'
   pub stop : (room : ℕ) → settle_stop room s ≡ settle_stop room s'

@@ -12,7 +12,7 @@ use Rattle.stm_store.specs.Cells.{plains, kinds_of, made_by}
 use Rattle.stm_store.specs.Naming.{number_named, may_hold_known}
 use Rattle.stm_store.specs.Tables.{is_type}
 use Rattle.stm_check.specs.TypedBlock.{Block}
-use Rattle.stm_queue.specs.Queue.{Entry, marked}
+use Rattle.stm_queue.specs.Queue.{Entry, queued_again}
 use Rattle.stm_events.specs.SlowDesk.{Waiter, Slow, under, verdict_on, is_blocks, is_new, is_current, find_waiter, max_cells}
 use Rattle.stm_terms.specs.Limits.{max_waiting}
 use Rattle.stm_events.specs.declared.errors.SubmitError.{SubmitError}
@@ -115,7 +115,7 @@ without_message (Err e) = Err e.1
 
 -- after a refused message: a ticket that was overtaken is queued
 abbrev pub pending_left : DeliverError → ℕ → List Entry → List Entry
-pending_left (deliver.Overtaken i) t es = marked t false es
+pending_left (deliver.Overtaken i) t es = queued_again t es
 pending_left deliver.Gone t es = es
 pending_left deliver.OtherBlock t es = es
 pending_left deliver.Already t es = es

@@ -31,7 +31,7 @@ pub fn current_holds()
     ensures { CurrentHolds }
 {}
 
-/// The store is that of running the finished blocks alone, one after another.
+/// The store is that of running the finished blocks alone and of making the declared variables, one after another.
 pub fn store_is_serial()
     ensures { StoreIsSerial }
 {}
@@ -39,7 +39,8 @@ pub fn store_is_serial()
 /// After every legal history, each waiting block to which something was delivered is marked stale exactly if a block that
 /// finished since its last delivery changed a variable that its evaluation read; if it isn't marked so, the verdict of that
 /// delivery is the one that running it from scratch on the present store gives; and the store is that of running the
-/// finished blocks alone, one after another. By the rule of earlier histories the same holds with "wrote" for "changed".
+/// finished blocks alone and of making the declared variables, one after another. By the rule of earlier histories the same
+/// holds with "wrote" for "changed".
 pub fn headline()
     ensures present { Headline }
     ensures by_rule { (R : AnyRule) → HeadlineBy R }
@@ -67,7 +68,8 @@ pub fn draining_runs_what_is_due()
     ensures { DrainingRunsWhatIsDue }
 {}
 
-/// While no block is new or stale, the lowest block that could finish now is the one that settling finishes.
+/// While no block is new or stale, the lowest block that could finish now is the lowest that doesn't block on the present
+/// store: the one that settling finishes next.
 pub fn ready_finishes_next()
     ensures { ReadyFinishesNext }
 {}

@@ -55,7 +55,8 @@ impl Frame {
     pub(crate) fn write(&mut self, at: Ref, value: Value) -> Result<(), NoMemory>
         requires { written self.old at value ≢ None }
         ensures done { OnOk result (written self.old at value ≡ Some self.new) }
-        ensures made { length self.new.news ≡ length self.old.news }
+        // No cell is made or lost.
+        ensures same { length self.new.news ≡ length self.old.news }
         ensures unchanged { OnErr result (self.new ≡ self.old) }
     {
         match at {

@@ -96,7 +96,8 @@ impl Log {
     pub fn write(&mut self, at: Ref, value: Value) -> Result<(), NoMemory>
         requires { written self.old.top at value ≢ None }
         ensures done { OnOk result (IsWritten at value self.old self.new) }
-        ensures made { length self.new.top.news ≡ length self.old.top.news }
+        // No cell is made or lost.
+        ensures same { length self.new.top.news ≡ length self.old.top.news }
         ensures unchanged { OnErr result (self.new ≡ self.old) }
     {
         self.top.write(at, value)
@@ -177,7 +178,7 @@ impl Log {
     pub fn take_changes(&mut self) -> (Writes, News)
         ensures writes { result.0 ≡ self.old.top.writes }
         ensures news { result.1 ≡ self.old.top.news }
-        ensures left { self.new ≡ record self.old { top = no_changes } }
+        ensures emptied { self.new ≡ record self.old { top = no_changes } }
     {
         let alloc = *self.below.allocator();
         let Frame { writes, news } = mem::replace(&mut self.top, Frame::empty(alloc));

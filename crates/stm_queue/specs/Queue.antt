@@ -40,6 +40,10 @@ without_ticket t es = filter (λ e. not (nat_eq t e.0)) es
 abbrev pub marked : ℕ → Bool → List Entry → List Entry
 marked t out es = map (λ e. if nat_eq t e.0 then (e.0, out) else e) es
 
+-- the ticket, if it is in the list, is queued
+abbrev pub queued_again : ℕ → List Entry → List Entry
+queued_again t es = marked t false es
+
 -- the lowest queued ticket
 abbrev pub first_queued : List Entry → Option ℕ
 first_queued [] = None

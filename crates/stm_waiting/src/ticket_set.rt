@@ -52,7 +52,7 @@ impl TicketSet {
 
     /// Reserves room for one ticket more.
     pub fn make_room(&mut self) -> Result<(), NoMemory>
-        ensures tickets { self.new.tickets ≡ self.old.tickets }
+        ensures same { self.new.tickets ≡ self.old.tickets }
         ensures room { OnOk result (0 < self.new.room) }
     {
         self.tickets.reserve(1)

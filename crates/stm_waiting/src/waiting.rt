@@ -141,7 +141,7 @@ impl WaitingBlocks {
         hold_at(&mut self.slots, place, ticket, held);
     }
 
-    /// The list for `hold_reads` of what was read: none if the block under the ticket has one of as many reads.
+    /// The list for `hold_reads` of what was read: none only if the block under the ticket has one of as many reads.
     pub fn fresh_reads(&self, ticket: u32, scratch: &Scratch) -> Result<Option<Reads>, NoMemory>
         ensures { IfOk result (λ fresh. AreFreshFor fresh (kept_at ticket self.now) scratch.now) }
     {
