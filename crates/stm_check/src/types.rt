@@ -91,7 +91,8 @@ pub fn as_wanted(wanted: Option<Ty>, t: Ty) -> bool
     }
 }
 
-/// What two branches have in common, or an action and its handler, with none for any type.
+/// What two branches have in common, or an action and its handler, with none for any type; the outer option is none if their types
+/// differ.
 pub fn join(first: Option<Ty>, second: Option<Ty>) -> Option<Option<Ty>>
     ensures { option_map result_type result
         ≡ join_types (result_type first) (result_type second) }

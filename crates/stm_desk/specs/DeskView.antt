@@ -1,15 +1,13 @@
 -- What contracts see of a desk: all else follows from it.
-use Rattle.std.specs.Prelude.{◌≡◌, ℕ, ◌+◌, Bool, true, false, nat_le, nat_lt, List, [], ◌∷◌, ◌++◌, length, Option, Some, option_map, is_some}
-use Rattle.stm_terms.specs.declared.values.Value.{Value}
+use Rattle.std.specs.Prelude.{◌≡◌, ℕ, ◌+◌, Bool, true, false, nat_le, nat_lt, List, [], ◌∷◌, ◌++◌, length, Option, Some, is_some}
 use Rattle.stm_store.specs.Tables.{Declared}
 use Rattle.stm_queue.specs.Queue.{Entry, has_ticket, with_ticket, without_ticket}
 use Rattle.stm_events.specs.declared.event.Event.{Event}
 use Rattle.stm_events.specs.declared.event.What.{What}
 use Rattle.stm_events.specs.declared.event.What.TheVariants.{Submitted, Installed, Finished, Cancelled, Declared as DeclaredLate, Labelled}
-use Rattle.stm_events.specs.BlockStatus.{read_now}
 use Rattle.stm_events.specs.Labels.{Labels, labels_from}
 use Rattle.stm_events.specs.Laws.{SubmittedAreWellTyped}
-use Rattle.stm_events.specs.SlowDesk.{Slow, Waiter, Standing, standing, verdict_on, is_current, find_waiter, state_from}
+use Rattle.stm_events.specs.SlowDesk.{Slow, Waiter, verdict_on, find_waiter, state_from}
 use Rattle.stm_events.specs.SlowSettle.{settling}
 use Rattle.stm_events.specs.Rounds.{a_round}
 use Rattle.stm_events.specs.States.{IsLegalFrom}
@@ -51,14 +49,6 @@ pending_after (Labelled t label) es = es
 -- the desk after one event more, of this client
 abbrev pub with_event : DeskView → ℕ → What → DeskView
 with_event d client what = record d { history = d.history ++ event client what ∷ []; pending = pending_after what d.pending }
-
--- how the block under a ticket stands, if one waits there
-abbrev pub standing_of : Slow → ℕ → Option Standing
-standing_of s t = option_map (standing s.store) (find_waiter t s.waiters)
-
--- these were read by the block that waits under a ticket, if it is current: what it reads on the present store
-abbrev pub AreReadNow : Slow → ℕ → Option (List (ℕ × Value)) → Type 0
-AreReadNow s t reads = (w : Waiter) → find_waiter t s.waiters ≡ Some w → is_current w ≡ true → reads ≡ Some (read_now s.store w)
 
 -- there is no room for an event
 abbrev pub is_full : DeskView → Bool

@@ -116,8 +116,8 @@ impl Desk {
         ensures done { IfOk result (λ e.
             evaluated_by_call self.new e ≡ evaluate_lowest self.old client n) }
         ensures few { IfOk result (λ e. e.count ≤ n) }
-        ensures stopped { OnErr result (HasEvaluatedSome client n self.old self.new) }
-        ensures store { (state_of self.new).store ≡ (state_of self.old).store }
+        ensures left { OnErr result (HasEvaluatedSome client n self.old self.new) }
+        ensures same { (state_of self.new).store ≡ (state_of self.old).store }
     {
         for count in 0..n {
             let ticket = match self.next_queued() {
@@ -143,11 +143,13 @@ impl Desk {
     /// The caller's number is below 128. After `NoMemory` the first of them are evaluated, and the others are queued as before.
     pub fn evaluate_queued(&mut self, client: u32, n: u32) -> Result<Evaluation, NoMemory>
         requires { client < max_clients }
+        // After `Ok` as many of the n lowest are evaluated as there was room for.
         ensures done { IfOk result (λ e.
             evaluated_by_call self.new e ≡ evaluate_lowest self.old client n) }
         ensures few { IfOk result (λ e. e.count ≤ n) }
-        ensures stopped { OnErr result (HasEvaluatedSome client n self.old self.new) }
-        ensures store { (state_of self.new).store ≡ (state_of self.old).store }
+        // After an out-of-memory error a first part of them is.
+        ensures left { OnErr result (HasEvaluatedSome client n self.old self.new) }
+        ensures same { (state_of self.new).store ≡ (state_of self.old).store }
     {
         if self.next_queued().is_none() {
             return Ok(Evaluation {

@@ -1,19 +1,18 @@
 //! What a desk shows.
 
-ghost use Rattle.std.specs.Prelude.{◌≡◌, ◌≤◌, nat_lt, None, length, option_map, slice_get};
+ghost use Rattle.std.specs.Prelude.{◌≡◌, ◌≤◌, None, length, option_map, slice_get};
 ghost use Rattle.std.specs.Option.{option_copied};
 ghost use Rattle.stm_events.specs.SlowDesk.{find_waiter, serial, serial_steps_from};
 ghost use Rattle.stm_events.specs.States.{IsLegalFrom};
-ghost use Rattle.stm_events.specs.Ready.{next_ready};
-ghost use Rattle.stm_events.specs.SlowSettle.{lowest};
-ghost use Rattle.stm_events.specs.BlockStatus.{shown, read_then};
+ghost use Rattle.stm_events.specs.Ready.{next_ready, next_waiting};
+ghost use Rattle.stm_events.specs.BlockStatus.{shown, standing_of, AreReadNow, read_then};
 ghost use Rattle.stm_machine.specs.JobsHandedOut.{block_at};
 ghost use Rattle.stm_events.specs.Headline.{HeadlineHoldsBy};
 ghost use Rattle.stm_events.specs.HeadlineFrom.{HeadlineHoldsFrom};
 ghost use Rattle.stm_machine.specs.Checkpoints.{MayStart};
 ghost use Rattle.stm_queue.specs.Queue.{queued, tickets};
 ghost use Rattle.stm_queue.specs.SortedTickets.{IsRising};
-ghost use Rattle.stm_desk.specs.DeskView.{start_state, state_of, standing_of, AreReadNow, DeskQueueIsRight, AllHaveVerdicts, SettlesInRounds};
+ghost use Rattle.stm_desk.specs.DeskView.{start_state, state_of, DeskQueueIsRight, AllHaveVerdicts, SettlesInRounds};
 
 use crate::desk::Desk;
 use stm_check::SharedBlock;
@@ -115,8 +114,7 @@ impl Desk {
 
     /// The least waiting ticket above this one.
     pub fn next_waiting(&self, after: u32) -> Option<u32>
-        ensures { result ≡ option_map (λ w. w.ticket)
-            (lowest (λ w. nat_lt after w.ticket) (state_of self.now).waiters) }
+        ensures { result ≡ next_waiting after (state_of self.now) }
     {
         self.machine.next_waiting(after)
     }

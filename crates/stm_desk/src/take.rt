@@ -1,7 +1,7 @@
 //! Work that is handed out, and comes back.
 
-ghost use Rattle.std.specs.Prelude.{◌≡◌, ◌≤◌, false, vec_len, IfOk, OnErr, is_some};
-ghost use Rattle.stm_queue.specs.Queue.{is_out, marked, first_queued};
+ghost use Rattle.std.specs.Prelude.{◌≡◌, ◌≤◌, vec_len, IfOk, OnErr, is_some};
+ghost use Rattle.stm_queue.specs.Queue.{is_out, queued_again, first_queued};
 ghost use Rattle.stm_desk.specs.HandedOut.{HasHandedOut};
 
 use crate::desk::Desk;
@@ -24,7 +24,7 @@ impl Desk {
     pub fn hand_back(&mut self, ticket: u32) -> bool
         ensures was { result ≡ is_out ticket self.old.pending }
         ensures queued { self.new
-            ≡ record self.old { pending = marked ticket false self.old.pending } }
+            ≡ record self.old { pending = queued_again ticket self.old.pending } }
     {
         self.machine.hand_back(ticket)
     }

@@ -456,9 +456,11 @@ fn try_forked<R: Threads + Sync>(
     Ok(judged(ends, end))
 }
 
-/// As `evaluate`, with both branches of an `orElse` at once, by threads, `levels` deep. The right branch's verdict, reads
-/// and lack of memory count only if the left one retried. If the log and the locals can't be copied, or a thread can't be
-/// started, one branch runs after the other. With no levels no thread is started.
+/// As `evaluate`, with both branches of an `orElse` at once, by threads, `levels` deep. The right branch's verdict and reads
+/// count only if the left one retried.
+///
+/// No clause says the rest: the right branch's lack of memory counts only then, too; if the log and the locals can't be copied,
+/// or a thread can't be started, one branch runs after the other; with no levels no thread is started.
 pub fn evaluate_forked<R: Threads + Sync>(
     rt: &R,
     alloc: Global,

@@ -24,7 +24,7 @@ pub fn verdict_is_stable()
     ensures { VerdictIsStable }
 {}
 
-/// The reads of a block are of exactly the variables that it looks at, with the values of the store.
+/// The reads of a block have the values of the store, and if it has a verdict they are of exactly the variables that it looks at.
 pub fn read_set_is_exact()
     ensures values { ReadsAgreeWithStore }
     ensures variables { ReadSetIsExact }

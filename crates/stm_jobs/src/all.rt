@@ -44,9 +44,10 @@ fn work_all<R: Threads + Sync>(
 }
 
 /// Evaluates the jobs by at most `workers` threads on a store that has the variables of their blocks, and returns the answers
-/// in the order of the jobs. If memory runs out for the list of the answers, the jobs are handed back before any of them is
-/// evaluated. If a thread can't be started, the caller's thread does its share. Both branches of an `orElse` run at once, in
-/// threads of their own, `levels` deep.
+/// in the order of the jobs. If memory runs out for the list of the answers, the jobs are handed back.
+///
+/// No clause says the rest: they are handed back before any of them is evaluated; if a thread can't be started, the caller's
+/// thread does its share; both branches of an `orElse` run at once, in threads of their own, `levels` deep.
 pub fn evaluate_all<R: Threads + Sync>(
     rt: &R,
     alloc: Global,

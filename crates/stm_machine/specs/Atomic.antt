@@ -6,13 +6,14 @@ use Rattle.stm_terms.specs.ReadSet.{reads_of}
 use Rattle.stm_store.specs.Cells.{plains, Fits, made_by}
 use Rattle.stm_check.specs.TypedBlock.{Block}
 use Rattle.stm_events.specs.declared.event.What.{What}
-use Rattle.stm_events.specs.declared.event.What.TheVariants.{Submitted, Installed, Finished}
+use Rattle.stm_events.specs.declared.event.What.TheVariants.{Submitted, Installed}
 use Rattle.stm_events.specs.Refusals.{overflows, submit_refused}
 use Rattle.stm_events.specs.SlowAtomically.{AllowsEach}
 use Rattle.stm_events.specs.SlowDesk.{Slow, under, verdict_on, waking, is_blocks, stale_after, max_cells}
 use Rattle.stm_events.specs.SlowDrain.{after_all}
 use Rattle.stm_machine.specs.declared.finish.Plan.{Plan}
 use Rattle.stm_machine.specs.Machine.{Parts, IsAt, HasTicketLeft}
+use Rattle.stm_machine.specs.Plans.{finish_by}
 
 -- on the present store the block has this verdict, which fits it, and reads this
 pub record IsVerdictOf (s : Slow) (block : Block) (v : Verdict) (reads : List (ℕ × Value)) : Type 0 where
@@ -53,17 +54,24 @@ PlansRun m v first_new stale =
 abbrev pub PlansRunBy : Parts → Verdict → Plan → Type 0
 PlansRunBy m v p = PlansRun m v p.first_new p.stale
 
+-- a block is submitted under a ticket, and evaluated to this verdict
+abbrev pub submitted_current : ℕ → Block → Verdict → List What
+submitted_current t block v = Submitted t block ∷ Installed t v ∷ []
+
+-- a block is submitted under a ticket, evaluated to the verdict of a plan, and finished by the plan
+abbrev pub run_whole : ℕ → Block → Plan → List What
+run_whole t block p = Submitted t block ∷ Installed t p.verdict ∷ finish_by t p ∷ []
+
+-- each of these in its turn is allowed on the state, and the machine is at the state after them
+abbrev pub PassesThrough : Slow → List What → Parts → Type 0
+PassesThrough s whats new = AllowsEach s whats × IsAt new (after_all s whats)
+
 -- each of these in its turn is allowed on each state that the machine is at, and they take the machine to the state after them
 abbrev pub MovesThrough : List What → Parts → Parts → Type 0
-MovesThrough whats old new = (s : Slow) → IsAt old s → (AllowsEach s whats × IsAt new (after_all s whats))
-
--- whichever block that may be submitted has this verdict: it is submitted, evaluated and finished so
-abbrev pub RunsBlocks : Verdict → ℕ → List ℕ → Parts → Parts → Type 0
-RunsBlocks v first_new stale old new =
-    (s : Slow) (block : Block) → IsAt old s → submit_refused s false block ≡ None → verdict_on s.store block ≡ Some v
-    → (AllowsEach s (Submitted s.next block ∷ Installed s.next v ∷ Finished s.next v first_new stale ∷ [])
-    × IsAt new (after_all s (Submitted s.next block ∷ Installed s.next v ∷ Finished s.next v first_new stale ∷ [])))
+MovesThrough whats old new = (s : Slow) → IsAt old s → PassesThrough s whats new
 
 -- whichever block that may be submitted has the verdict of this plan: it is submitted, evaluated and finished by the plan
 abbrev pub RunsBlocksBy : Plan → Parts → Parts → Type 0
-RunsBlocksBy p old new = RunsBlocks p.verdict p.first_new p.stale old new
+RunsBlocksBy p old new =
+    (s : Slow) (block : Block) → IsAt old s → submit_refused s false block ≡ None → verdict_on s.store block ≡ Some p.verdict
+    → PassesThrough s (run_whole s.next block p) new

@@ -3,11 +3,10 @@
 ghost use Rattle.std.specs.Prelude.{◌≡◌, ◌∷◌, ◌++◌, [], false, None, Some, IfOk, OnOk, OnErr};
 ghost use Rattle.stm_store.specs.Cells.{applied_answer};
 ghost use Rattle.stm_watch.specs.Pairs.{WithReads};
-ghost use Rattle.stm_events.specs.declared.event.What.{What as AnyWhat};
 ghost use Rattle.stm_events.specs.SlowDesk.{Slow};
 ghost use Rattle.stm_events.specs.Refusals.{overflows, submit_refused};
 ghost use Rattle.stm_waiting.specs.Entries.{AllBelow, with_held};
-ghost use Rattle.stm_machine.specs.Atomic.{IsVerdictOf, IsRunPlanFor, PlansRunBy, RunsBlocksBy, MayWaitCurrent, MovesThrough};
+ghost use Rattle.stm_machine.specs.Atomic.{IsVerdictOf, IsRunPlanFor, PlansRunBy, RunsBlocksBy, MayWaitCurrent, MovesThrough, submitted_current};
 ghost use Rattle.stm_machine.specs.Machine.{IsAt, HasTicketLeft};
 ghost use Rattle.stm_machine.specs.QueueAndIndex.{with_tickets};
 
@@ -120,6 +119,7 @@ impl Machine {
     /// A block of this verdict is submitted, evaluated and finished by its plan. It never waits. All memory is taken before the
     /// first change.
     pub fn run(&mut self, plan: &Plan) -> Result<Applied, NoMemory>
+        // At a state that the machine is at, a ticket is left, and a block may end by the plan.
         requires { (s : Slow) × IsAt self.old s × HasTicketLeft s × IsRunPlanFor s plan.now }
         ensures done { OnOk result (RunsBlocksBy plan.now self.old self.new) }
         ensures applied { IfOk result (λ a. a ≡ applied_answer self.old.store plan.now.verdict) }
@@ -153,9 +153,8 @@ impl Machine {
         scratch: &Scratch,
     ) -> Result<(), NoMemory>
         requires { (s : Slow) × IsAt self.old s × MayWaitCurrent s block verdict scratch.now }
-        ensures done { OnOk result (MovesThrough
-            (AnyWhat.Submitted self.old.next block ∷ AnyWhat.Installed self.old.next verdict ∷ [])
-            self.old self.new) }
+        ensures done { OnOk result
+            (MovesThrough (submitted_current self.old.next block verdict) self.old self.new) }
         ensures pending { OnOk result (self.new.pending ≡ self.old.pending) }
         ensures unchanged { OnErr result (self.new ≡ self.old) }
     {

@@ -33,6 +33,7 @@ impl Machine {
 
     /// The block waits no more. It takes no memory.
     pub fn cancel(&mut self, ticket: u32)
+        // At a state that the machine is at, nothing refuses it.
         requires { (s : Slow) × IsAt self.old s × (cancel_refused s false ticket ≡ None) }
         ensures done { MovesBy (AnyWhat.Cancelled ticket) self.old self.new }
         ensures pending { self.new.pending ≡ without_ticket ticket self.old.pending }

@@ -307,6 +307,7 @@ impl Checkpoint {
     /// to `MAX_NEXT`.
     pub fn new(alloc: Global, store: Store, names: Names, next: u32) -> Checkpoint
         requires tickets { (0 < next) × (next ≤ max_next) }
+        // The store has each variable that has a name, with its type.
         requires named { Covers (plains store) (named_uses names) }
         ensures { result ≡ record { store = store; names = names; next = next; blocks = [] } }
     {
@@ -449,6 +450,7 @@ impl Machine {
         alloc: Global,
         labels: &LabelTable,
     ) -> Result<Checkpoint, CheckpointError>
+        // The machine is at a well typed state, by the present rule.
         requires at { (s : Slow) × IsAt self.now s × IsTypedState s × (s.rule ≡ AnyRule.Changed) }
         requires labels { AreLabels labels.now }
         ensures taken { IfOk result (λ c. (s : Slow) → IsAt self.now s

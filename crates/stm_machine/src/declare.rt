@@ -75,6 +75,7 @@ impl Machine {
     /// The variable is declared: it is the next one of the store, and has the number that is returned. No block becomes stale.
     pub fn declare(&mut self, name: &str, kind: Ty, value: Value) -> Result<u32, NoMemory>
         requires name { IsTrue (is_name_text name.now) }
+        // At a state that the machine is at, nothing refuses it.
         requires may { (s : Slow) × IsAt self.old s
             × (late_declare_refused s false name.now kind value ≡ None) }
         ensures done { OnOk result (MovesBy (AnyWhat.Declared name.now kind value) self.old self.new) }

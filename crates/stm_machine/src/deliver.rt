@@ -142,8 +142,9 @@ impl Machine {
     // A message is moved by value; a call that isn't inlined copies it.
     #[inline(always)]
     pub fn deliver(&mut self, message: Evaluated) -> Result<SharedVerdict, (Evaluated, NoMemory)>
+        // At a state that the machine is at, nothing refuses it.
         requires { (s : Slow) × IsAt self.old s × MayDeliver s message }
-        ensures done { MovesOrStays result
+        ensures moves { MovesOrStays result
             (installation_of message)
             (without_ticket (message_ticket message) self.old.pending)
             self.old self.new }

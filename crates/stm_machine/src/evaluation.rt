@@ -132,6 +132,7 @@ impl Machine {
         verdict: Verdict,
         scratch: &Scratch,
     ) -> Result<SharedVerdict, NoMemory>
+        // At a state that the machine is at, nothing refuses it.
         requires { (s : Slow) × IsAt self.old s × MayKeep s ticket verdict scratch.now }
         ensures done { OnOk result
             (MovesBy (AnyWhat.Installed ticket verdict) self.old self.new) }

@@ -144,8 +144,9 @@ impl Machine {
 
     /// The block takes effect by its plan and waits no more. Its stale tickets are queued.
     pub fn finish(&mut self, ticket: u32, plan: &Plan) -> Result<Applied, NoMemory>
+        // At a state that the machine is at, nothing refuses it.
         requires { (s : Slow) × IsAt self.old s × IsPlanFor s ticket plan.now }
-        ensures done { MovesOrStays result
+        ensures moves { MovesOrStays result
             (finish_by ticket plan.now)
             (with_tickets plan.now.stale self.old.pending)
             self.old self.new }

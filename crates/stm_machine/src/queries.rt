@@ -1,16 +1,15 @@
 //! What the machine shows.
 
-ghost use Rattle.std.specs.Prelude.{◌≡◌, ◌≤◌, nat_lt, true, Some, length, option_map};
+ghost use Rattle.std.specs.Prelude.{◌≡◌, ◌≤◌, true, Some, length, option_map};
 ghost use Rattle.std.specs.Option.{option_copied};
 ghost use Rattle.stm_queue.specs.Queue.{tickets};
 ghost use Rattle.stm_queue.specs.SortedTickets.{IsRising};
-ghost use Rattle.stm_events.specs.SlowDesk.{Waiter, Slow, is_current, find_waiter, standing};
+ghost use Rattle.stm_events.specs.SlowDesk.{Waiter, Slow, is_current, find_waiter};
 ghost use Rattle.stm_terms.specs.Limits.{max_waiting};
-ghost use Rattle.stm_events.specs.Ready.{next_ready};
-ghost use Rattle.stm_events.specs.SlowSettle.{lowest};
+ghost use Rattle.stm_events.specs.Ready.{next_ready, next_waiting};
 ghost use Rattle.stm_machine.specs.Machine.{IsAt};
 ghost use Rattle.stm_machine.specs.QueueAndIndex.{QueueIsRight};
-ghost use Rattle.stm_events.specs.BlockStatus.{shown, read_then, read_now};
+ghost use Rattle.stm_events.specs.BlockStatus.{shown, standing_of, read_then, read_now};
 ghost use Rattle.stm_machine.specs.JobsHandedOut.{block_at};
 
 use crate::machine::Machine;
@@ -25,7 +24,7 @@ impl Machine {
     pub fn status(&self, ticket: u32) -> Option<Status<'_>>
         ensures { (s : Slow) → IsAt self.now s
             → option_map shown result
-            ≡ option_map (standing s.store) (find_waiter ticket s.waiters) }
+            ≡ standing_of s ticket }
     {
         match self.waiting.get(ticket) {
             None => None,
@@ -86,7 +85,7 @@ impl Machine {
         &self.names
     }
 
-    /// How many blocks wait. The other clauses say what holds of every queue.
+    /// How many blocks wait, which are never more than may wait. The clauses `queue` and `rising` say what holds of every queue.
     pub fn waiting(&self) -> usize
         ensures waiting { (s : Slow) → IsAt self.now s → result ≡ length s.waiters }
         ensures few { (s : Slow) → IsAt self.now s → result ≤ max_waiting }
@@ -101,7 +100,7 @@ impl Machine {
     /// The least waiting ticket above this one.
     pub fn next_waiting(&self, after: u32) -> Option<u32>
         ensures { (s : Slow) → IsAt self.now s
-            → result ≡ option_map (λ w. w.ticket) (lowest (λ w. nat_lt after w.ticket) s.waiters) }
+            → result ≡ next_waiting after s }
     {
         self.waiting.first_above(after)
     }

@@ -1,7 +1,7 @@
 //! Work that is handed out, and comes back. No event is of it: the machine stays at its state.
 
-ghost use Rattle.std.specs.Prelude.{◌≡◌, ◌≢◌, ◌≤◌, ℕ, true, false, None, map, take, vec_len, IfOk};
-ghost use Rattle.stm_queue.specs.Queue.{has_ticket, queued, is_out, marked, recalled};
+ghost use Rattle.std.specs.Prelude.{◌≡◌, ◌≢◌, ◌≤◌, ℕ, true, None, map, take, vec_len, IfOk};
+ghost use Rattle.stm_queue.specs.Queue.{has_ticket, queued, is_out, queued_again, recalled};
 ghost use Rattle.stm_events.specs.SlowDesk.{Slow};
 ghost use Rattle.stm_waiting.specs.Entries.{kept_at};
 ghost use Rattle.stm_machine.specs.Machine.{IsAt, Stays};
@@ -97,7 +97,7 @@ impl Machine {
     pub fn hand_back(&mut self, ticket: u32) -> bool
         ensures was { result ≡ is_out ticket self.old.pending }
         ensures queued { self.new
-            ≡ record self.old { pending = marked ticket false self.old.pending } }
+            ≡ record self.old { pending = queued_again ticket self.old.pending } }
         ensures kept { Stays self.old self.new }
     {
         self.pending.hand_back(ticket)

@@ -58,6 +58,7 @@ impl Machine {
 
     /// The block waits from now on, under the ticket that is returned, and is queued.
     pub fn submit(&mut self, block: SharedBlock) -> Result<u32, NoMemory>
+        // At a state that the machine is at, a ticket is left, and nothing refuses the block.
         requires { (s : Slow) × IsAt self.old s × HasTicketLeft s
             × (submit_refused s false block ≡ None) }
         ensures done { IfOk result (λ t. MovesBy (AnyWhat.Submitted t block) self.old self.new) }

@@ -10,15 +10,15 @@ use Rattle.stm_queue.specs.Queue.{first_queued, marked}
 use Rattle.stm_events.specs.declared.errors.DeliverError.{DeliverError}
 use Rattle.stm_events.specs.declared.event.What.{What}
 use Rattle.stm_machine.specs.JobsHandedOut.{block_at}
-use Rattle.stm_machine.specs.Machine.{event, installation_of}
+use Rattle.stm_machine.specs.Machine.{installation_of}
 use Rattle.stm_desk.specs.DeskView.{DeskView, state_of, with_event}
 use Rattle.stm_desk.specs.Refusals.{requeued_if_overtaken}
-use Rattle.stm_pool.specs.Own.{Known, with_own}
+use Rattle.stm_pool.specs.Own.{Known, having_done}
 
 -- what happened is the last event of the desk's history and of the list in the client's pass
 pub record JoinsBoth (old new : DeskView) (pass pass' : Known) (what : What) : Type 0 where
   pub desk : new ≡ with_event old pass.client what
-  pub own : pass' ≡ with_own pass (event pass.client what)
+  pub own : pass' ≡ having_done pass what
 
 -- What a delivery did: the verdict is installed; or, after an error, the message comes back, the pass is as it was, and the desk too, but
 -- that the ticket is queued if the message was overtaken.

@@ -1,8 +1,9 @@
--- What a reader has to believe: what is known and shown to a client, done by a worker, and left by a storm.
+-- What a reader has to believe: what is known and shown to a client, why a call is refused, what a worker does, and what a storm leaves.
 pub mod Closing
 pub mod Found
 pub mod Lent
 pub mod Own
+pub mod Refused
 pub mod Shown
 pub mod Storms
 pub mod Worked

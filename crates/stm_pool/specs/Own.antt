@@ -1,6 +1,8 @@
 -- What a client knows of a history.
 use Rattle.std.specs.Prelude.{ℕ, zero, suc, ◌+◌, Bool, true, ◌&&◌, ◌==◌, nat_lt, List, [], ◌∷◌, ◌++◌, length, if◌then◌else◌}
 use Rattle.stm_events.specs.declared.event.Event.{Event}
+use Rattle.stm_events.specs.declared.event.What.{What}
+use Rattle.stm_machine.specs.Machine.{event}
 
 -- what a pass is to its holder: the client, its own accepted events, and how many events it has seen
 pub record Known : Type 0 where
@@ -40,6 +42,10 @@ newcomers client (suc n) = newcomer client ∷ newcomers (client + 1) n
 -- the same client with one event more
 abbrev pub with_own : Known → Event → Known
 with_own k e = record k { own = k.own ++ e ∷ [] }
+
+-- the same client, who did this
+abbrev pub having_done : Known → What → Known
+having_done k what = with_own k (event k.client what)
 
 -- the same client, who has seen this many events
 abbrev pub having_seen : Known → ℕ → Known

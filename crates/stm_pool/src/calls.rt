@@ -5,11 +5,11 @@
 ghost use Rattle.std.specs.Prelude.{◌≡◌, ◌<◌, List, IsTrue, IfOk, OnOk, IfErr, OnErr, IfSome};
 ghost use Rattle.stm_terms.specs.Names.{is_name_text};
 ghost use Rattle.stm_store.specs.Tables.{Declared};
-ghost use Rattle.stm_machine.specs.Machine.{event, installation_of};
+ghost use Rattle.stm_machine.specs.Machine.{installation_of};
 ghost use Rattle.stm_events.specs.declared.event.Event.{Event as AnyEvent};
 ghost use Rattle.stm_events.specs.declared.event.What.TheVariants.{Submitted, Cancelled, Declared as DeclaredLate};
 ghost use Rattle.stm_desk.specs.Events.{finish_of};
-ghost use Rattle.stm_pool.specs.Own.{with_own};
+ghost use Rattle.stm_pool.specs.Own.{having_done};
 ghost use Rattle.stm_pool.specs.Found.{CanBeEvaluated};
 ghost use Rattle.stm_pool.specs.Shown.{IsShown, IsPresentView};
 
@@ -44,8 +44,7 @@ impl<L: Ledger> SharedDesk<L> {
         pass: &mut Pass<L>,
         block: SharedBlock,
     ) -> Result<u32, SubmitError>
-        ensures accepted { IfOk result (λ t. pass.new
-            ≡ with_own pass.old (event pass.old.client (Submitted t block))) }
+        ensures accepted { IfOk result (λ t. pass.new ≡ having_done pass.old (Submitted t block)) }
         ensures unchanged { OnErr result (pass.new ≡ pass.old) }
     {
         let answer = self.lock.lock(rt).submit(pass, block);
@@ -67,7 +66,7 @@ impl<L: Ledger> SharedDesk<L> {
     ) -> Result<u32, LateDeclareError>
         requires name { IsTrue (is_name_text name.now) }
         ensures accepted { OnOk result (pass.new
-            ≡ with_own pass.old (event pass.old.client (DeclaredLate name.now kind value))) }
+            ≡ having_done pass.old (DeclaredLate name.now kind value)) }
         ensures unchanged { OnErr result (pass.new ≡ pass.old) }
     {
         let answer = self.lock.lock(rt).declare(pass, name, kind, value);
@@ -84,8 +83,7 @@ impl<L: Ledger> SharedDesk<L> {
         pass: &mut Pass<L>,
         ticket: u32,
     ) -> Result<Finish, FinishError>
-        ensures accepted { IfOk result (λ f. pass.new ≡ with_own pass.old (event pass.old.client
-            (finish_of ticket f))) }
+        ensures accepted { IfOk result (λ f. pass.new ≡ having_done pass.old (finish_of ticket f)) }
         ensures unchanged { OnErr result (pass.new ≡ pass.old) }
     {
         let answer = self.lock.lock(rt).finish(pass, ticket);
@@ -103,8 +101,7 @@ impl<L: Ledger> SharedDesk<L> {
         pass: &mut Pass<L>,
         ticket: u32,
     ) -> Result<(), CancelError>
-        ensures accepted { OnOk result (pass.new
-            ≡ with_own pass.old (event pass.old.client (Cancelled ticket))) }
+        ensures accepted { OnOk result (pass.new ≡ having_done pass.old (Cancelled ticket)) }
         ensures unchanged { OnErr result (pass.new ≡ pass.old) }
     {
         let answer = self.lock.lock(rt).cancel(pass, ticket);
@@ -121,8 +118,7 @@ impl<L: Ledger> SharedDesk<L> {
         pass: &mut Pass<L>,
         message: Evaluated,
     ) -> Result<(), (Evaluated, DeliverError)>
-        ensures accepted { OnOk result (pass.new ≡ with_own pass.old (event pass.old.client
-            (installation_of message))) }
+        ensures accepted { OnOk result (pass.new ≡ having_done pass.old (installation_of message)) }
         ensures unchanged { OnErr result (pass.new ≡ pass.old) }
         ensures back { IfErr result (λ e. e.0 ≡ message) }
     {
@@ -139,7 +135,7 @@ impl<L: Ledger> SharedDesk<L> {
     /// What is there now: the store and the length of a legal history, which has this client's
     /// events and is no shorter than what it has seen. The client has seen it from then on.
     pub fn view<R: Wait>(&self, rt: &R, pass: &mut Pass<L>) -> Result<View, ViewError>
-        ensures done { IfOk result (λ v. (table : List Declared) × (history : List AnyEvent)
+        ensures shown { IfOk result (λ v. (table : List Declared) × (history : List AnyEvent)
             × IsShown table history pass.old pass.new v) }
         ensures unchanged { OnErr result (pass.new ≡ pass.old) }
     {
@@ -150,7 +146,7 @@ impl<L: Ledger> SharedDesk<L> {
     /// seen. The client has seen it from then on. It costs a copy of the store, however long the
     /// history is.
     pub fn present<R: Wait>(&self, rt: &R, pass: &mut Pass<L>) -> Result<View, ViewError>
-        ensures done { IfOk result (λ v. (table : List Declared) × (history : List AnyEvent)
+        ensures shown { IfOk result (λ v. (table : List Declared) × (history : List AnyEvent)
             × IsPresentView table history pass.old pass.new v) }
         ensures unchanged { OnErr result (pass.new ≡ pass.old) }
     {

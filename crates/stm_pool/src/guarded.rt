@@ -7,12 +7,13 @@ ghost use Rattle.stm_store.specs.Cells.{Covers, applied_answer};
 ghost use Rattle.stm_events.specs.declared.event.What.TheVariants.{Submitted, Cancelled, Declared as DeclaredLate};
 ghost use Rattle.stm_machine.specs.Plans.{IsPlan};
 ghost use Rattle.stm_events.specs.Refusals.{without_message};
-ghost use Rattle.stm_queue.specs.Queue.{is_out, marked, first_queued};
+ghost use Rattle.stm_queue.specs.Queue.{is_out, queued_again, first_queued};
 ghost use Rattle.stm_desk.specs.DeskView.{state_of};
 ghost use Rattle.stm_desk.specs.Events.{finish_of};
-ghost use Rattle.stm_desk.specs.Refusals.{submit_refusal, late_declare_refusal, cancel_refusal, finish_refusal, RefusesDelivery};
+ghost use Rattle.stm_desk.specs.Refusals.{submit_refusal, late_declare_refusal, cancel_refusal, finish_refusal};
 ghost use Rattle.stm_pool.specs.Own.{own_of, events_in_passes};
 ghost use Rattle.stm_pool.specs.Lent.{JoinsBoth, DeliversAs, TakesJob};
+ghost use Rattle.stm_pool.specs.Refused.{RefusedUnless, RefusesDeliveryUnless};
 ghost use Rattle.stm_pool.specs.Shown.{IsShown, IsPresentView};
 ghost use Rattle.stm_pool.specs.Closing.{close_error, ClosesAs, MayClose, IsCloseError};
 
@@ -60,8 +61,7 @@ impl<L: Ledger> Guarded<L> {
             JoinsBoth self.old.desk self.new.desk pass.old pass.new (Submitted t block)) }
         ensures ticket { IfOk result (λ t. t ≡ (state_of self.old.desk).next) }
         // Unless memory runs out first, it is refused as the desk's own call is.
-        ensures refused { result ≢ Err SubmitError.NoMemory
-            → RefusedAs SubmitError.NoMemory (submit_refusal self.old.desk block) result }
+        ensures refused { RefusedUnless SubmitError.NoMemory (submit_refusal self.old.desk block) result }
         ensures unchanged { OnErr result ((self.new.desk ≡ self.old.desk) × (pass.new ≡ pass.old)) }
         ensures same { self.new.stopped ≡ self.old.stopped }
     {
@@ -95,8 +95,8 @@ impl<L: Ledger> Guarded<L> {
             (DeclaredLate name.now kind value)) }
         ensures number { IfOk result (λ i. i ≡ length (state_of self.old.desk).store) }
         // Unless memory runs out first, it is refused as the desk's own call is.
-        ensures refused { result ≢ Err LateDeclareError.NoMemory
-            → RefusedAs LateDeclareError.NoMemory (late_declare_refusal self.old.desk name.now kind value) result }
+        ensures refused { RefusedUnless LateDeclareError.NoMemory
+            (late_declare_refusal self.old.desk name.now kind value) result }
         ensures unchanged { OnErr result ((self.new.desk ≡ self.old.desk) × (pass.new ≡ pass.old)) }
         ensures same { self.new.stopped ≡ self.old.stopped }
     {
@@ -124,8 +124,7 @@ impl<L: Ledger> Guarded<L> {
         ensures accepted { OnOk result
             (JoinsBoth self.old.desk self.new.desk pass.old pass.new (Cancelled ticket)) }
         // Unless memory runs out first, it is refused as the desk's own call is.
-        ensures refused { result ≢ Err CancelError.NoMemory
-            → RefusedAs CancelError.NoMemory (cancel_refusal self.old.desk ticket) result }
+        ensures refused { RefusedUnless CancelError.NoMemory (cancel_refusal self.old.desk ticket) result }
         ensures unchanged { OnErr result ((self.new.desk ≡ self.old.desk) × (pass.new ≡ pass.old)) }
         ensures same { self.new.stopped ≡ self.old.stopped }
     {
@@ -169,8 +168,7 @@ impl<L: Ledger> Guarded<L> {
     ) -> Result<(), (Evaluated, DeliverError)>
         ensures delivered { DeliversAs self.old.desk self.new.desk pass.old pass.new message result }
         // Unless memory runs out first, it is refused as the desk's own call is.
-        ensures refused { without_message result ≢ Err DeliverError.NoMemory
-            → RefusesDelivery (without_message result) self.old.desk message }
+        ensures refused { RefusesDeliveryUnless (without_message result) self.old.desk message }
         ensures same { self.new.stopped ≡ self.old.stopped }
     {
         let Guarded { desk, book, .. } = self;
@@ -211,7 +209,7 @@ impl<L: Ledger> Guarded<L> {
     pub fn hand_back(&mut self, ticket: u32) -> bool
         ensures was { result ≡ is_out ticket self.old.desk.pending }
         ensures desk { self.new.desk
-            ≡ record self.old.desk { pending = marked ticket false self.old.desk.pending } }
+            ≡ record self.old.desk { pending = queued_again ticket self.old.desk.pending } }
         ensures same { self.new.stopped ≡ self.old.stopped }
     {
         self.desk.hand_back(ticket)
@@ -234,7 +232,7 @@ impl<L: Ledger> Guarded<L> {
     /// The store and the number of events, which the client has seen from then on, if the history
     /// has the client's events: all of them are compared.
     pub fn view(&self, pass: &mut Pass<L>) -> Result<View, ViewError>
-        ensures done { IfOk result (λ v.
+        ensures shown { IfOk result (λ v.
             IsShown self.now.desk.table self.now.desk.history pass.old pass.new v) }
         ensures unchanged { OnErr result (pass.new ≡ pass.old) }
         ensures lost { result ≡ Err ViewError.Lost
@@ -250,7 +248,7 @@ impl<L: Ledger> Guarded<L> {
     /// The store and the number of events, which the client has seen from then on. The client's
     /// events aren't compared with the history, so it costs the same however long that is.
     pub fn present(&self, pass: &mut Pass<L>) -> Result<View, ViewError>
-        ensures done { IfOk result (λ v.
+        ensures shown { IfOk result (λ v.
             IsPresentView self.now.desk.table self.now.desk.history pass.old pass.new v) }
         ensures unchanged { OnErr result (pass.new ≡ pass.old) }
         ensures lost { result ≡ Err ViewError.Lost → length self.now.desk.history < pass.old.seen }

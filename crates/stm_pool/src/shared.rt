@@ -62,10 +62,12 @@ impl<L: Ledger> SharedDesk<L> {
         passes: u32,
         max_events: u32,
     ) -> Result<(SharedDesk<L>, Vec<Pass<L>>), NoMemory>
+        // The blank is of this ledger: it has its name, and as many parts as there are passes.
         requires name { blank.name ≡ L.name }
         requires parts { (blank.parts ≡ L.parts) × (blank.parts ≡ passes) }
         requires passes { passes ≤ max_clients }
         requires events { max_events ≤ most_events }
+        // Contracts see a desk as the number of its passes.
         ensures desk { IfOk result (λ r. r.0 ≡ passes) }
         ensures passes { IfOk result (λ r. r.1.items ≡ newcomers 0 passes) }
     {

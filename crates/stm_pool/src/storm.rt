@@ -65,7 +65,7 @@ fn end_of<L: Ledger>(
     clients: usize,
 ) -> Result<StormEnd, NoMemory>
     requires { clients ≤ shared }
-    ensures each { IfOk result (λ e. vec_len e.counts ≡ clients) }
+    ensures len { IfOk result (λ e. vec_len e.counts ≡ clients) }
     ensures end { IfOk result (λ e. IfSome e.report (λ r. CountsDesk e.counts.items r)) }
 {
     let Returned { passes, extras } = returned;
@@ -93,7 +93,7 @@ fn storm_with<L: Ledger + Send + Sync, R: Threads + Wait + Sync>(
     requires few { (vec_len sections ≤ max_sections) × (workers ≤ max_workers) }
     requires levels { levels ≤ max_levels }
     requires events { max_events ≤ most_events }
-    ensures each { IfOk result (λ e. vec_len e.counts ≡ vec_len sections) }
+    ensures len { IfOk result (λ e. vec_len e.counts ≡ vec_len sections) }
     ensures end { IfOk result (λ e. IfSome e.report (λ r. CountsDesk e.counts.items r)) }
 {
     let clients = sections.len();
@@ -123,7 +123,7 @@ pub fn run_storm<R: Threads + Wait + Sync>(
     requires few { (vec_len sections ≤ max_sections) × ((0 < workers) × (workers ≤ max_workers)) }
     requires levels { levels ≤ max_levels }
     requires events { max_events ≤ most_events }
-    ensures each { IfOk result (λ e. vec_len e.counts ≡ vec_len sections) }
+    ensures len { IfOk result (λ e. vec_len e.counts ≡ vec_len sections) }
     // What the counts say of each client is what the desk's history has of it.
     ensures end { IfOk result (λ e. IfSome e.report (λ r. CountsDesk e.counts.items r)) }
 {

@@ -2,7 +2,7 @@
 
 ghost use Rattle.stm_queue.specs.Laws.{AddedAreThere, RemovedAreGone, MarksKeepTickets, SendingKeepsTickets, RecallKeepsTickets, QueuedAreThere};
 
-/// A ticket that is added is in the list, one that is removed isn't, and the others stay as they were.
+/// A ticket that is added is in the list, one that is removed isn't, and each other one is in the list exactly if it was before.
 pub fn tickets_come_and_go()
     ensures added { AddedAreThere }
     ensures removed { RemovedAreGone }

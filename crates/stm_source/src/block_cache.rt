@@ -309,8 +309,8 @@ impl BlockCache {
         self.known = Snapshot::of(known);
     }
 
-    /// The block of a text, kept or new, over names that come after those that were known before. If its text comes again, it is kept from
-    /// now on.
+    /// The block of a text, kept or new, over names that come after those that were known before. No clause says which blocks are kept: this
+    /// one is from now on, if its text comes again.
     pub fn block(
         &mut self,
         alloc: Global,

@@ -9,4 +9,4 @@ pub returns-in-Ok-clause-grown : goal.returns-in-Ok-clause-grown
 returns-in-Ok-clause-grown c = evaluated_grown c.args.desk.now 65536 _ c.in-Ok.ensures.done c.history-after.ensures.start c.history-after.ensures.legal
 
 pub returns-in-Err-clause-grown : goal.returns-in-Err-clause-grown
-returns-in-Err-clause-grown c = evaluated_grown c.args.desk.now _ _ (sym c.in-Err.ensures.stopped.done) c.history-after.ensures.start c.history-after.ensures.legal
+returns-in-Err-clause-grown c = evaluated_grown c.args.desk.now _ _ (sym c.in-Err.ensures.left.done) c.history-after.ensures.start c.history-after.ensures.legal

@@ -20,6 +20,6 @@ invariant_of-self-in-Ok-deliver c =
     let r = subst (λ (d : DeskView). is_full d ≡ false) (sym c.self.view_is) c.requires.room in
     let is : c.push_reserved.new.self.items ≡ c.self.inside.history.items ++ event c.args.client (installation_of m) ∷ [] = search rules in
     subst (λ (es : List Event). DeskInvariant c.self.inside.table c.self.inside.checkpoint c.self.inside.limit es c.deliver.new.self × HasLabels c.self.inside.checkpoint es c.self.inside.labels) (sym is) (
-      kept_move _ _ _ _ _ c.self.invariant.0 c.args.client (installation_of m) c.deliver.new.self c.requires.client r tt c.in-Ok-deliver.ensures.done.0,
+      kept_move _ _ _ _ _ c.self.invariant.0 c.args.client (installation_of m) c.deliver.new.self c.requires.client r tt c.in-Ok-deliver.ensures.moves.0,
       labels_stay _ _ _ c.self.invariant.1 c.args.client (installation_of m) refl,
     )

@@ -14,8 +14,8 @@ hold-requires c =
     let m = c.args.message in
     rw c.ticket-ticket.ensures (queued_wait _ s k (message_ticket m) (deliver_queued _ s m k c.requires.2))
 
-pub returns-in-Ok-clause-done : goal.returns-in-Ok-clause-done
-returns-in-Ok-clause-done c = (
+pub returns-in-Ok-clause-moves : goal.returns-in-Ok-clause-moves
+returns-in-Ok-clause-moves c = (
   λ z h.
       let s = c.requires.0 in
       let k = subst (λ (m : Parts). IsAt m s) (sym c.self.view_is) c.requires.1 in

@@ -22,8 +22,8 @@ queue_all-requires-clause-absent c =
     let k = subst (λ (m : Parts). IsAt m s) (sym c.self.view_is) c.requires.1 in
     rw (c.as_slice-stale.ensures, c.take_effect.ensures.entries) (plan_absent _ s k _ _ _ _ c.requires.2)
 
-pub returns-in-Ok-clause-done : goal.returns-in-Ok-clause-done
-returns-in-Ok-clause-done c = (
+pub returns-in-Ok-clause-moves : goal.returns-in-Ok-clause-moves
+returns-in-Ok-clause-moves c = (
   λ z h.
       let s = c.requires.0 in
       let k = subst (λ (m : Parts). IsAt m s) (sym c.self.view_is) c.requires.1 in
