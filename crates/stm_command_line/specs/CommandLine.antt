@@ -22,7 +22,7 @@ use Rattle.stm_options.specs.declared.options.Options.{Options}
 use Rattle.stm_command_line.specs.declared.version.TheConstants.{VERSION}
 use Rattle.stm_options.specs.Options.{AreRunOptions, default_options}
 
--- the program's name alone, or the word `run` after it
+-- no word at all, the program's name alone, or the word `run` after it
 abbrev pub asks_for_run : List (List ℕ) → Bool
 asks_for_run [] = true
 asks_for_run (name ∷ []) = true

@@ -8,7 +8,7 @@ use Rattle.stm_options.specs.declared.options.Options.{Options}
 use Rattle.stm_command_line.specs.CommandLine.{answers_of, asks_for_help, asks_for_run, asks_for_version, has_mistake, request_of, HasOptionsInRange}
 use Rattle.stm_options.specs.Options.{default_options}
 
--- of the program's name alone, and of the word `run` after it, there is nothing to report, so they ask for a run
+-- of no word at all, of the program's name alone, and of the word `run` after it there is nothing to report, so they ask for a run
 abbrev pub RunsAreAccepted : Type 0
 RunsAreAccepted = (words : List (List ℕ)) → IsTrue (asks_for_run words) → answers_of words ≡ []
 

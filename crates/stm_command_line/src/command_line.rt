@@ -841,7 +841,7 @@ fn check_request(alloc: Global, matches: &ArgMatches) -> Result<(), Error>
 
 /// Reads the words, the program's name first: what they ask for, else the help, the version or the error to be printed.
 pub fn read_words<'a, S: AsStr>(alloc: Global, words: &'a [S]) -> Result<Request<'a>, Error>
-    // The name alone, and `run` after it, are taken even if memory runs out.
+    // No word at all, the name alone, and `run` after it, are taken even if memory runs out.
     ensures run { IsTrue (asks_for_run (map S.text words.now)) → IsOk result }
     // What the words ask for, or what clap prints of them.
     ensures words { ReadsWords (map S.text words.now) result }

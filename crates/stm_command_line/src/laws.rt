@@ -2,8 +2,8 @@
 
 ghost use Rattle.stm_command_line.specs.WordLaws.{RunsAreAccepted, LastDashesChangeNothing, RunsHaveDefaults, OptionsAreInRange, StormsAreAccepted, StormsAreAsRuns, StormsHaveNoJournal, ChecksAreAccepted, ChecksWithReasonsAreAccepted, VersionsAreAskedFor, NumbersAreTaken, OthersAreRefused, NoOptionTwice, OptionsNeedRun, JournalsAreTaken, EmptyNamesAreRefused, ModesAreTaken, OtherModesAreRefused, ModesNeedJournals, CheckpointsAreTaken, OtherCheckpointsAreRefused, CheckpointsNeedJournals};
 
-/// The program's name alone, and `run` after it, ask for a run with the default options, also with a last word `--`. No
-/// words give a run, a storm or an exploration options that are out of their ranges.
+/// No word at all, the program's name alone, and `run` after it ask for a run with the default options, also with a last word `--`.
+/// No words give a run, a storm or an exploration options that are out of their ranges.
 pub fn words_of_a_run_are_accepted()
     ensures accepted { RunsAreAccepted }
     ensures dashes { LastDashesChangeNothing }

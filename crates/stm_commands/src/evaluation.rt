@@ -275,6 +275,7 @@ pub fn evaluate_queued<T: Threads + Sync>(
     alloc: Global,
     threading: Threading,
 ) -> Result<Evaluation, NoMemory>
+    // As the type of a desk keeps it; `Desk::history` says so.
     requires start { MayStart desk.old.table desk.old.checkpoint }
     requires legal { IsLegalFrom (start_state desk.old) desk.old.history }
     ensures done { IfOk result (λ p. delivered_so_far desk.new p ≡ evaluated desk.old) }

@@ -73,7 +73,7 @@ impl OpenDesk {
         OpenDesk::resume(alloc, Desk::open(alloc, table, limit)?)
     }
 
-    /// An open desk that goes on from a history, on which no job is out.
+    /// An open desk that goes on from a history, and that keeps no job. Which tickets are out stays as it is.
     pub fn resume(alloc: Global, desk: Desk) -> Result<OpenDesk, NoMemory>
         ensures { IfOk result (λ d. d ≡ record { desk = desk; jobs = [] }) }
     {

@@ -88,7 +88,7 @@ fn finding_line(alloc: Global, finding: Finding) -> Result<String, RunFault>
 /// Reads a history to its end, writes whether it is legal, and flushes.
 ///
 /// docs/HISTORY.md has the format and says which fault is the first. It is written as `legal N events`, `bad header`,
-/// `bad line N` or `not legal N`, with a line feed. The reader is called 4,294,967,295 times at most.
+/// `bad line N` or `not legal N`, with a line feed. The reader is called 4,294,967,295 times at most, which no clause says.
 pub fn check<R: Read, W: Write>(
     alloc: Global,
     reader: &mut R,

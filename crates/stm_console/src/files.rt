@@ -87,8 +87,8 @@ pub trait JournalFiles {
     /// The bytes of the file of this name, if they are known; none of a file that is missing.
     ghost contents: { Self → List ℕ → Option (List ℕ) };
 
-    /// Opens the file of this name for reading and writing, and makes it if it is missing. No other run has it open then, and it
-    /// is settled: reads return what the disk has. If its bytes are known the device is honest, and has them.
+    /// Opens the file of this name for reading and writing, and makes it if it is missing. No other run has it open then. Neither
+    /// has a clause. It is settled: reads return what the disk has. If its bytes are known the device is honest, and has them.
     fn open(&self, name: &str) -> Result<Self::File, OpenError>
         ensures contents { IfOk result (λ file. IfSome (contents self.now name.now) (λ bytes.
             IsTrue Self.File.disk.is_honest × (Self.File.disk.seen file ≡ bytes))) }

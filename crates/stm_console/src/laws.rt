@@ -23,7 +23,8 @@ pub fn exit_statuses()
     ensures wrong_file { WrongFilesDoNothing }
 {}
 
-/// What was written, if the exit status is 0, and if it isn't. Of an invalid script nothing was written, and the status is 1 or 4.
+/// What was written, if the exit status is 0, and if it isn't. Of an invalid script nothing was written, and the status is 1 or 4. Of
+/// `check` this says only what was written if the status isn't 0, and of help and `check --why` nothing: see `ProgramDoes`.
 pub fn output_by_status()
     ensures run { DoneRunsAnswer }
     ensures run_on { DoneFilesAnswer }

@@ -287,7 +287,8 @@ fn perform<T: Threads + Wait + RandomSource + Sync, F: JournalFiles, R: Read, W:
 /// - 0: the input was read to its end, and nothing wrong was found; or help or the version was printed.
 /// - 1: a read or a write failed, a line of a script is wrong, or the file of a run can't be opened or its history is full.
 /// - 2: the words were refused.
-/// - 3: a history isn't legal, also that of the file of a run, or an exploration found a fault or didn't end.
+/// - 3: a history isn't legal, also that of a storm's clients, or a storm's desk couldn't be closed; the file of a run has no history
+///   to go on from; or an exploration found a fault or too many states.
 /// - 4: memory ran out, or a thread didn't start.
 ///
 /// If `errors` fails, that changes nothing.

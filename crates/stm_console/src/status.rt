@@ -9,7 +9,8 @@ pub const FAILED: u8 = 1;
 /// The words were refused.
 pub const REFUSED: u8 = 2;
 
-/// A history isn't legal, or an exploration didn't find all right.
+/// A history isn't legal, also that of a storm's clients, or a storm's desk couldn't be closed; the file of a run has no history to go
+/// on from; or an exploration found a fault or too many states.
 pub const NOT_RIGHT: u8 = 3;
 
 /// Memory ran out, or a thread didn't start.

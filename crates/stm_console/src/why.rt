@@ -194,8 +194,8 @@ fn answer_bytes<W: Write>(
 /// that isn't, and flushes. The whole history is read into memory first.
 ///
 /// What is written begins as that of `check`. A line more follows unless the history is legal: `expected LINE`, `refused NAME`
-/// or `unreadable`, after `bad header` with `line N ` before it. The reader is called 4,294,967,295 times at most. The names of
-/// variables are looked up under the seed.
+/// or `unreadable`, after `bad header` with `line N ` before it. The reader is called 4,294,967,295 times at most, which no clause
+/// says. The names of variables are looked up under the seed.
 pub fn check_why<R: Read, W: Write>(
     alloc: Global,
     seed: Seed,

@@ -212,7 +212,7 @@ impl Console {
         }
     }
 
-    /// A console whose desk goes on from a history, with no job out.
+    /// A console whose desk goes on from a history, and that keeps no job. Which tickets are out stays as it is.
     pub fn resume(alloc: Global, desk: Desk) -> Result<Console, NoMemory>
         ensures { IfOk result (λ c. c ≡ IsOpen (record { desk = desk; jobs = [] })) }
     {

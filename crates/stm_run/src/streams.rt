@@ -163,7 +163,8 @@ fn run_from<T: Threads + RandomSource + Sync, R: Read, W: Write, L: Ledger>(
 ///
 /// What each command answers is said in docs/CONSOLE.md. An interrupted read is tried again. After 4,294,967,295 calls of
 /// the reader a run ends as it does after a read that fails. The writer is flushed before each read and at the end, so it
-/// may keep a buffer. Of a line that is too long no more than its first 65,538 bytes are kept.
+/// may keep a buffer. Of a line that is too long no more than its first 65,538 bytes are kept, which no
+/// clause says.
 pub fn run<T: Threads + RandomSource + Sync, R: Read, W: Write>(
     rt: &T,
     alloc: Global,

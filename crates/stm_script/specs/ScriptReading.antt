@@ -68,7 +68,8 @@ ReadsScript input (Ok script) = IfSome input (λ text. storm_script text ≡ Ok 
 ReadsScript input (Err (reading.Script fault)) = IfSome input (λ text. storm_script text ≡ Err fault)
 ReadsScript input (Err (reading.Run fault)) = fault ≢ run.Write
 
--- What ending a script under way returns, of which this line is missing: the script; why there is none; or that memory ran out.
+-- What ending a script under way returns, if the line after its last one has this number: the script; why there is none, and then that line
+-- is the faulty one; or that memory ran out.
 abbrev pub EndsScript : PartialScript → ℕ → Result Script ReadingFault → Type 0
 EndsScript r next (Ok script) = (script_result (Ok r) next ≡ Ok (script_of script)) × (vec_len script.sections ≤ max_sections)
 EndsScript r next (Err (reading.Script fault)) = script_result (Ok r) next ≡ Err fault

@@ -196,12 +196,12 @@ after_lines (Err e) n lines = Err e
 after_lines (Ok r) n [] = Ok r
 after_lines (Ok r) n (line ∷ rest) = after_lines (after_numbered r n line) (n + 1) rest
 
--- in the end there has to be a section; else the line that is missing is faulty
+-- in the end there has to be a section; else the line after the last one, which has this number, is faulty
 abbrev pub ended_script : List Declared → List (List Task) → Option Begun → ℕ → Result StormScript ScriptFault
 ended_script table ended (Some b) next = Ok (record { table = table; sections = ended ++ b.tasks ∷ [] })
 ended_script table ended None next = Err (faulty_line next reason.NoClient)
 
--- the script that was read to this line, which is missing; or its first faulty line
+-- the script that was read to its end, if the line after its last one has this number; or its first faulty line
 abbrev pub script_result : Result PartialScript ScriptFault → ℕ → Result StormScript ScriptFault
 script_result (Ok r) next = ended_script r.table r.ended r.begun next
 script_result (Err f) next = Err f

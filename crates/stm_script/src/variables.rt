@@ -74,7 +74,8 @@ impl Variables {
         self.table
     }
 
-    /// Declares the variable of a text after the others. Without memory for its name, no variable is left.
+    /// Declares the variable of a text after the others. Without memory for its name no variable is left, which no clause
+    /// says.
     pub fn declare(&mut self, alloc: Global, text: &str) -> Result<(), Refusal>
         ensures { DeclaresNext self.old result self.new (variable_of self.old text.now) }
     {
