@@ -5,7 +5,7 @@ ghost use Rattle.stm_command_line.specs.WordLaws.{RunsAreAccepted, LastDashesCha
 /// No word at all, the program's name alone, and `run` after it ask for a run with the default options, also with a last word `--`.
 /// No words give a run, a storm or an exploration options that are out of their ranges.
 pub fn words_of_a_run_are_accepted()
-    ensures accepted { RunsAreAccepted }
+    ensures bare { RunsAreAccepted }
     ensures dashes { LastDashesChangeNothing }
     ensures defaults { RunsHaveDefaults }
     ensures range { OptionsAreInRange }
@@ -14,14 +14,14 @@ pub fn words_of_a_run_are_accepted()
 /// `storm` after the program's name asks for a storm with the default options, and any words after it are taken as after `run`,
 /// except those of a journal: so a storm's options are those of a run, in the same ranges, each at most once.
 pub fn words_of_a_storm_are_those_of_a_run()
-    ensures accepted { StormsAreAccepted }
-    ensures same { StormsAreAsRuns }
+    ensures bare { StormsAreAccepted }
+    ensures as_runs { StormsAreAsRuns }
     ensures no_journal { StormsHaveNoJournal }
 {}
 
 /// `check` after the program's name asks for a check, and `check --why` for what would be accepted instead, too.
 pub fn words_of_a_check_are_accepted()
-    ensures accepted { ChecksAreAccepted }
+    ensures bare { ChecksAreAccepted }
     ensures why { ChecksWithReasonsAreAccepted }
 {}
 

@@ -21,8 +21,8 @@ fn write_version(out: &mut String) -> Result<(), NoMemory>
 
 /// The line that `--version` prints.
 pub fn version_line(alloc: Global) -> Result<String, RunFault>
-    ensures line { IfOk result (λ text. string_bytes text ≡ version_line) }
-    ensures memory { IfErr result (λ e. e ≡ RunFault.NoMemory) }
+    ensures text { IfOk result (λ text. string_bytes text ≡ version_line) }
+    ensures fault { IfErr result (λ e. e ≡ RunFault.NoMemory) }
 {
     let mut text = String::new(alloc);
     match write_version(&mut text) {

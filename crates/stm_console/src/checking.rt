@@ -75,8 +75,8 @@ pub(crate) fn write_finding(finding: Finding, out: &mut String) -> Result<(), No
 
 /// The line that is printed of a finding.
 fn finding_line(alloc: Global, finding: Finding) -> Result<String, RunFault>
-    ensures line { IfOk result (λ text. string_bytes text ≡ finding_text finding) }
-    ensures memory { IfErr result (λ e. e ≡ RunFault.NoMemory) }
+    ensures text { IfOk result (λ text. string_bytes text ≡ finding_text finding) }
+    ensures fault { IfErr result (λ e. e ≡ RunFault.NoMemory) }
 {
     let mut text = String::new(alloc);
     match write_finding(finding, &mut text) {

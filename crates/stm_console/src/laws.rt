@@ -17,7 +17,7 @@ pub fn words_ask_for_this()
 /// only from a check, a storm, an exploration, or a run on a file that has no history to go on from.
 pub fn exit_statuses()
     ensures few { StatusesAreFew }
-    ensures refused { RefusedDoNothing }
+    ensures wrong_words { RefusedDoNothing }
     ensures taken { RequestsAreTaken }
     ensures judged { OnlyJudgesFindWrong }
     ensures wrong_file { WrongFilesDoNothing }

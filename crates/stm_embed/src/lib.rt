@@ -45,8 +45,8 @@ use version::{VERSION_TEXT, VersionText};
 
 /// Makes a console of no variables, whose names will be looked up under the seed, and puts its handle into the room.
 fn make(alloc: Global, seed: Seed, max_events: u32, desk: &mut Room) -> bool
-    ensures made { IsTrue result → IsSomeAnd desk.new.embedded (λ e. IsNew max_events e) }
-    ensures same { result ≡ false → desk.new ≡ desk.old }
+    ensures made { IsTrue result → IsSomeAnd desk.new.embedded (IsNew max_events) }
+    ensures unchanged { result ≡ false → desk.new ≡ desk.old }
 {
     let limit = EventLimit::new(max_events.min(Desk::MAX_EVENTS));
     match Box::new(alloc, Embedded::new(alloc, seed, limit)) {
@@ -63,9 +63,9 @@ fn make(alloc: Global, seed: Seed, max_events: u32, desk: &mut Room) -> bool
 #[unsafe(no_mangle)]
 pub extern "C" fn stmdesk_new(alloc: Global, max_events: u32, desk: &mut Room) -> bool
     // The pointer is to a new console.
-    ensures made { IsTrue result → IsSomeAnd desk.new.embedded (λ e. IsNew max_events e) }
+    ensures made { IsTrue result → IsSomeAnd desk.new.embedded (IsNew max_events) }
     // Or the variable is as it was.
-    ensures same { result ≡ false → desk.new ≡ desk.old }
+    ensures unchanged { result ≡ false → desk.new ≡ desk.old }
 {
     make(alloc, Seed::fixed(), max_events, desk)
 }
@@ -79,9 +79,9 @@ pub extern "C" fn stmdesk_new_seeded(
     desk: &mut Room,
 ) -> bool
     // The pointer is to a new console.
-    ensures made { IsTrue result → IsSomeAnd desk.new.embedded (λ e. IsNew max_events e) }
+    ensures made { IsTrue result → IsSomeAnd desk.new.embedded (IsNew max_events) }
     // Or the variable is as it was.
-    ensures same { result ≡ false → desk.new ≡ desk.old }
+    ensures unchanged { result ≡ false → desk.new ≡ desk.old }
 {
     make(alloc, Seed::random(seed), max_events, desk)
 }
@@ -143,7 +143,7 @@ fn explore_for_c(
 ) -> u32
     ensures found { result ≢ no_memory → GivesExploration script.now (explore_options options.now)
         diagnosed result explored.new text.new.embedded }
-    ensures memory { result ≡ no_memory → GivesNothing text.old text.new explored.new }
+    ensures left { result ≡ no_memory → GivesNothing text.old text.new explored.new }
 {
     match explore(alloc, script, options.options(), diagnosed, text) {
         Ok((ended, length)) => {
@@ -173,7 +173,7 @@ pub extern "C" fn stmdesk_explore(
     ensures found { result ≢ no_memory → GivesExploration script.now (explore_options options.now)
         false result explored.new text.new.embedded }
     // If memory ran out, the variable for the text is as it was.
-    ensures memory { result ≡ no_memory → GivesNothing text.old text.new explored.new }
+    ensures left { result ≡ no_memory → GivesNothing text.old text.new explored.new }
 {
     explore_for_c(alloc, script, options, false, text, explored)
 }
@@ -192,7 +192,7 @@ pub extern "C" fn stmdesk_explore_with_diagnostics(
     ensures found { result ≢ no_memory → GivesExploration script.now (explore_options options.now)
         true result explored.new text.new.embedded }
     // If memory ran out, the variable for the text is as it was.
-    ensures memory { result ≡ no_memory → GivesNothing text.old text.new explored.new }
+    ensures left { result ≡ no_memory → GivesNothing text.old text.new explored.new }
 {
     explore_for_c(alloc, script, options, true, text, explored)
 }

@@ -3,6 +3,6 @@ use Rattle.stm_command_line.proofs.laws.words_of_a_check_are_accepted.Goals as g
 
 pub returns : goal.returns
 returns c = record {
-  accepted = λ name. (check_unanswered name, check_requested name);
+  bare = λ name. (check_unanswered name, check_requested name);
   why = λ name. (why_unanswered name, why_requested name);
 }

@@ -1,8 +1,8 @@
 use Rattle.stm_command_line.proofs.WordAnswers.{run_unanswered, dashes_unanswered, run_requested, dashes_requested, options_in_range}
 use Rattle.stm_command_line.proofs.laws.words_of_a_run_are_accepted.Goals as goal
 
-pub returns-clause-accepted : goal.returns-clause-accepted
-returns-clause-accepted c = run_unanswered
+pub returns-clause-bare : goal.returns-clause-bare
+returns-clause-bare c = run_unanswered
 
 pub returns-clause-dashes : goal.returns-clause-dashes
 returns-clause-dashes c = dashes_unanswered

@@ -19,4 +19,4 @@ returns-in_err-write_flushed g c =
     let p = err_from_is_err_and c.from_residual-in_err-write_flushed.result c.from_residual-in_err-write_flushed.ensures.1 in
     let failed : p.0 ≡ Write = cc (p.2, c.in_err-write_flushed.ensures.fault) in
     rw p.1 (found_in_part (g.R.Read.remaining c.args.reader.now) (g.W.Write.contents c.args.writer.now) (g.W.Write.contents c.write_flushed.new.writer) c.in_ok-finding.finding c.as_bytes.result.now p.0
-    c.in_ok-finding.ensures (c.as_bytes.ensures.value ∙ c.in_ok-line.ensures.line) c.in_err-write_flushed.ensures.written failed)
+    c.in_ok-finding.ensures (c.as_bytes.ensures.value ∙ c.in_ok-line.ensures.text) c.in_err-write_flushed.ensures.written failed)

@@ -4,8 +4,8 @@ use Rattle.stm_console.proofs.laws.exit_statuses.Goals as goal
 pub returns-clause-few : goal.returns-clause-few
 returns-clause-few c = few
 
-pub returns-clause-refused : goal.returns-clause-refused
-returns-clause-refused c = refused_kept
+pub returns-clause-wrong_words : goal.returns-clause-wrong_words
+returns-clause-wrong_words c = refused_kept
 
 pub returns-clause-taken : goal.returns-clause-taken
 returns-clause-taken c = taken
