@@ -1,6 +1,7 @@
 -- `checkpoint`: the history begins from where the desk is.
-use Rattle.std.specs.Prelude.{ℕ, Bool, false, ◌&&◌, not, nat_lt, nat_le, if◌then◌else◌, List, [], ◌∷◌, ◌++◌, codes, decimal, length, Option, Some, None}
-use Rattle.stm_machine.specs.Checkpoints.{CheckpointView, max_next}
+use Rattle.std.specs.Prelude.{ℕ, Bool, false, ◌&&◌, not, nat_lt, nat_le, if◌then◌else◌, List, [], ◌∷◌, ◌++◌, codes, decimal, length, Option, Some, None, IfSome}
+use Rattle.stm_store.specs.Tables.{Declared}
+use Rattle.stm_machine.specs.Checkpoints.{CheckpointView, MayStart, max_next}
 use Rattle.stm_desk.specs.DeskView.{state_of}
 use Rattle.stm_desk.specs.Checkpointed.{checkpoint_now, checkpointed}
 use Rattle.stm_commands.specs.Arguments.{with_nothing, argument_refused}
@@ -14,6 +15,10 @@ are_tickets_full d = nat_lt max_next (state_of d.desk).next
 -- the checkpoint of the present state, unless tickets could run out in a history from it
 abbrev pub next_checkpoint_of : OpenDesk → Option CheckpointView
 next_checkpoint_of d = if are_tickets_full d then None else Some (checkpoint_now d.desk)
+
+-- a history with these declared variables may begin from the checkpoint, if there is one
+abbrev pub MayStartFrom : List Declared → Option CheckpointView → Type 0
+MayStartFrom table next = IfSome next (λ c. MayStart table (Some c))
 
 -- the history begins from here; the jobs stay, with their numbers
 abbrev pub begun_anew : OpenDesk → OpenDesk

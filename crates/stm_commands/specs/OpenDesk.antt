@@ -19,10 +19,13 @@ pub record OpenDesk : Type 0 where
   pub desk : DeskView
   pub jobs : List HandedOut
 
+-- a desk for which no job is kept
+abbrev pub without_jobs : DeskView → OpenDesk
+without_jobs desk = record { desk = desk; jobs = [] }
+
 -- the desk on which nothing has happened, with these variables and a limit of events
 abbrev pub opened_desk : List Declared → ℕ → OpenDesk
-opened_desk table limit =
-    record { desk = record { table = table; checkpoint = None; limit = limit; history = []; pending = [] }; jobs = [] }
+opened_desk table limit = without_jobs (record { table = table; checkpoint = None; limit = limit; history = []; pending = [] })
 
 -- the present store
 abbrev pub present : OpenDesk → List Cell

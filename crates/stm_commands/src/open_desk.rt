@@ -1,6 +1,6 @@
 //! The desk of a console that has opened.
 
-ghost use Rattle.std.specs.Prelude.{◌≡◌, ◌≤◌, [], IfOk};
+ghost use Rattle.std.specs.Prelude.{◌≡◌, ◌≤◌, IfOk};
 ghost use Rattle.std.specs.Option.{option_copied};
 ghost use Rattle.stm_store.specs.Cells.{Covers, plains};
 ghost use Rattle.stm_terms.specs.Limits.{max_events};
@@ -8,7 +8,7 @@ ghost use Rattle.stm_events.specs.States.{IsLegalFrom};
 ghost use Rattle.stm_machine.specs.Checkpoints.{MayStart};
 ghost use Rattle.stm_desk.specs.DeskView.{start_state};
 ghost use Rattle.stm_source.specs.CompiledBlock.{compiled_block, CompilesTo};
-ghost use Rattle.stm_commands.specs.OpenDesk.{opened_desk, known, present};
+ghost use Rattle.stm_commands.specs.OpenDesk.{opened_desk, known, present, without_jobs};
 
 use crate::jobs::KeptJob;
 use crate::stores::Stores;
@@ -75,7 +75,7 @@ impl OpenDesk {
 
     /// An open desk that goes on from a history, and that keeps no job. Which tickets are out stays as it is.
     pub fn resume(alloc: Global, desk: Desk) -> Result<OpenDesk, NoMemory>
-        ensures { IfOk result (λ d. d ≡ record { desk = desk; jobs = [] }) }
+        ensures { IfOk result (λ d. d ≡ without_jobs desk) }
     {
         // The history is known to be legal by this.
         let _history = desk.history();

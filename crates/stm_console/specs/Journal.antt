@@ -1,5 +1,5 @@
 -- The file of a run that keeps its history: when it has none to go on from, and which status goes with that.
-use Rattle.std.specs.Prelude.{ℕ, ◌<◌, ◌⊎◌, ⊤, List}
+use Rattle.std.specs.Prelude.{◌≡◌, ℕ, ◌<◌, ◌⊎◌, ⊤, IsTrue, List, Option, IfSome}
 use Rattle.stm_history.specs.declared.fault.HistoryFault.TheVariants.{ReadFault, NoMemory as NoMemoryToLoad}
 use Rattle.stm_history.specs.declared.loading.LoadFault.{LoadFault}
 use Rattle.stm_history.specs.declared.loading.LoadFault.TheVariants.{Fault, OldFormat}
@@ -7,6 +7,7 @@ use Rattle.stm_history.specs.FileLaws.{IsOfBytes}
 use Rattle.stm_history.specs.Loading.{ReportsLoadFault}
 use Rattle.stm_journal.specs.declared.error.JournalError.{JournalError}
 use Rattle.stm_journal.specs.declared.error.JournalError.TheVariants.{NoMemory, TornTooLong}
+use Rattle.stm_journal.specs.Disk.{Disk}
 use Rattle.stm_journal.specs.Journal.{most_batch}
 use Rattle.stm_journal.specs.Text.{recovered, dropped_count}
 use Rattle.stm_history_file.specs.declared.resuming.OpenFault.{OpenFault}
@@ -29,6 +30,11 @@ abbrev pub HasNoHistory : List ℕ → Type 0
 HasNoHistory bytes = IsForeign bytes
     ⊎ (((fault : LoadFault) × IsFaultOfBytes fault × ReportsLoadFault fault (recovered bytes))
     ⊎ (most_batch < dropped_count bytes))
+
+-- ---- a file that is open
+-- if these bytes are known, the disk is honest, and has them of the file
+abbrev pub HasBytes : {D : Type 0} → Disk D → Option (List ℕ) → D → Type 0
+HasBytes disk known file = IfSome known (λ bytes. IsTrue disk.is_honest × (disk.seen file ≡ bytes))
 
 -- ---- statuses
 

@@ -1,8 +1,8 @@
 //! The files in which runs keep their histories.
 
-ghost use Rattle.std.specs.Prelude.{◌≡◌, ℕ, List, Option, IsTrue, IfOk, IfSome};
+ghost use Rattle.std.specs.Prelude.{◌≡◌, ℕ, List, Option, IfOk};
 ghost use Rattle.stm_journal.specs.Disk.{IsSettled};
-ghost use Rattle.stm_console.specs.Journal.{open_status};
+ghost use Rattle.stm_console.specs.Journal.{HasBytes, open_status};
 
 use crate::status::{FAILED, NO_MEMORY};
 use std::io;
@@ -90,7 +90,6 @@ pub trait JournalFiles {
     /// Opens the file of this name for reading and writing, and makes it if it is missing. No other run has it open then. Neither
     /// has a clause. It is settled: reads return what the disk has. If its bytes are known the device is honest, and has them.
     fn open(&self, name: &str) -> Result<Self::File, OpenError>
-        ensures contents { IfOk result (λ file. IfSome (contents self.now name.now) (λ bytes.
-            IsTrue Self.File.disk.is_honest × (Self.File.disk.seen file ≡ bytes))) }
+        ensures contents { IfOk result (HasBytes Self.File.disk (contents self.now name.now)) }
         ensures settled { IfOk result (IsSettled Self.File.disk) };
 }

@@ -4,11 +4,14 @@ use Rattle.stm_options.specs.declared.explore_options.ExploreOptions.{ExploreOpt
 use Rattle.stm_lines.specs.Lines.{whole_lines_of, NoLineFeed}
 use Rattle.stm_run.specs.Console.{answers_to}
 use Rattle.stm_run.specs.AfterLines.{state_after_lines}
+use Rattle.stm_embed.specs.declared.checking.Checked.{Checked}
+use Rattle.stm_embed.specs.declared.checking.Found.{Found}
 use Rattle.stm_embed.specs.declared.exploring.Ended.{Ended}
 use Rattle.stm_embed.specs.declared.exploring.Explored.{Explored}
 use Rattle.stm_embed.specs.declared.feeding.Embedded.{Embedded}
 use Rattle.stm_embed.specs.declared.feeding.Fed.{Fed}
 use Rattle.stm_embed.specs.declared.feeding.Taken.{Taken}
+use Rattle.stm_embed.specs.Checking.{IsJudgement, found_status, numbers_of}
 use Rattle.stm_embed.specs.Exploring.{AreDiagnosticsOf, IsExplored, diagnosed_text, ended_status, invalid_line}
 use Rattle.stm_embed.specs.Feeding.{HasOnly, console_of, unread_answers}
 use Rattle.stm_embed.specs.Status.{all_taken, no_memory, part_of_line, taken_status}
@@ -62,6 +65,13 @@ pub record GivesNothing {R : Type 0} (old new : R) (explored : Explored) : Type 
   pub text : new ≡ old
   pub line_is : explored.line ≡ 0
   pub length_is : explored.length ≡ 0
+
+-- ---- a check
+-- What C gets of a check: something is found of the bytes, which the status and the numbers say. If memory ran out nothing is known of the
+-- bytes, and all numbers are 0.
+abbrev pub GivesCheck : List ℕ → ℕ → Checked → Type 0
+GivesCheck history status checked =
+    (found : Found) × IsJudgement history found × (status ≡ found_status found) × (checked ≡ numbers_of found)
 
 -- ---- inside
 -- the console took bytes of these lines, and keeps the answers

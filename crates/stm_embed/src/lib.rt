@@ -22,12 +22,10 @@ mod version;
 
 ghost use Rattle.std.specs.Prelude.{◌≡◌, ◌≢◌, ℕ, List, [], ◌∷◌, ◌++◌, true, false, length, IfOk, IsSomeAnd, IsTrue, OnErr};
 ghost use Rattle.stm_command_line.specs.declared.version.TheConstants.{VERSION};
-ghost use Rattle.stm_embed.specs.Checking.{IsJudgement, found_status, numbers_of};
 ghost use Rattle.stm_embed.specs.Exploring.{AreDiagnosticsOf, IsExplored, diagnosed_text, explore_options};
 ghost use Rattle.stm_embed.specs.Feeding.{HasOnly, IsNew};
-ghost use Rattle.stm_embed.specs.ForC.{EndsFeeding, Feeds, GivesExploration, GivesNothing};
+ghost use Rattle.stm_embed.specs.ForC.{EndsFeeding, Feeds, GivesCheck, GivesExploration, GivesNothing};
 ghost use Rattle.stm_embed.specs.Status.{no_memory};
-ghost use Rattle.stm_embed.specs.declared.checking.Found.{Found as AnyFound};
 
 use checking::{Checked, judge};
 use exploring::{Ended, Explored, Wanted};
@@ -197,8 +195,8 @@ pub extern "C" fn stmdesk_explore_with_diagnostics(
     explore_for_c(alloc, script, options, true, text, explored)
 }
 
-/// Judges the bytes of a history, and writes its numbers, or the line of its first fault. Names of variables are looked up under the
-/// seed.
+/// Judges the bytes of a history, and writes its numbers, or the line of its first fault. If memory runs out the status says so, and all
+/// numbers are 0. Names of variables are looked up under the seed.
 #[unsafe(no_mangle)]
 pub extern "C" fn stmdesk_check(
     alloc: Global,
@@ -206,9 +204,8 @@ pub extern "C" fn stmdesk_check(
     seed: &CallersSeed,
     checked: &mut Checked,
 ) -> u32
-    // What the status and the numbers say was found of the bytes.
-    ensures { (f : AnyFound) × IsJudgement history.now f × (result ≡ found_status f)
-        × (checked.new ≡ numbers_of f) }
+    // What the status and the numbers say was found of the bytes, unless memory ran out.
+    ensures { GivesCheck history.now result checked.new }
 {
     let found = judge(alloc, Seed::random(seed), history);
     *checked = found.numbers();

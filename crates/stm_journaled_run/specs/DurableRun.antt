@@ -16,6 +16,7 @@ use Rattle.stm_history_file.specs.Durable.{HistoryKept, IsFormatFor, LeavesHisto
 use Rattle.stm_history_file.specs.declared.recording.HistoryFile.{HistoryFile}
 use Rattle.stm_lines.specs.RunStatus.{status_of}
 use Rattle.stm_commands.specs.DueTickets.{queue_for}
+use Rattle.stm_commands.specs.OpenDesk.{without_jobs}
 use Rattle.stm_run.specs.declared.console.Console.{Console}
 use Rattle.stm_run.specs.declared.console.Console.TheVariants.{Open}
 use Rattle.stm_run.specs.Console.{initial_console}
@@ -31,16 +32,13 @@ use Rattle.stm_journaled_run.specs.declared.fault.DurableFault.TheVariants.{Run,
 abbrev pub resumed_console : ℕ → Option Loaded → Console
 resumed_console limit None = initial_console limit
 resumed_console limit (Some h) =
-    Open (record {
-      desk = record {
-        table = h.table;
-        checkpoint = h.checkpoint;
-        limit = limit;
-        history = h.events.items;
-        pending = queue_for [] (state_from (start_of h.table h.checkpoint) h.events.items).waiters;
-      };
-      jobs = [];
-    })
+    Open (without_jobs (record {
+      table = h.table;
+      checkpoint = h.checkpoint;
+      limit = limit;
+      history = h.events.items;
+      pending = queue_for [] (state_from (start_of h.table h.checkpoint) h.events.items).waiters;
+    }))
 
 -- where the history of the console begins, written in this format
 abbrev pub start_in : ℕ → Console → Start

@@ -5,7 +5,7 @@ ghost use Rattle.stm_machine.specs.Checkpoints.{MayStart};
 ghost use Rattle.stm_desk.specs.Checkpointed.{checkpoint_now};
 ghost use Rattle.stm_journal.specs.declared.error.JournalError.TheVariants.{NoMemory as OutOfMemory};
 ghost use Rattle.stm_journal.specs.Replacing.{OnRefused, journal_result};
-ghost use Rattle.stm_run.specs.declared.console.Console.TheVariants.{Open as IsOpen};
+ghost use Rattle.stm_run.specs.declared.console.Console.TheVariants.{Open};
 ghost use Rattle.stm_run.specs.ConsoleState.{present_desk, is_open, table_of, with_checkpoint};
 ghost use Rattle.stm_journaled_run.specs.DurableRun.{RecordsUnlessDisk, RunsUnlessDisk, KeepsConsole, KeepsConsoles};
 ghost use Rattle.stm_journaled_run.specs.Committing.{MayBeginAnew, BeginningLeaves, BeginsOrKeeps};
@@ -30,15 +30,15 @@ fn begin_desk_anew<D: Replace + Drop>(
     checkpoint: &Checkpoint,
     file: &mut HistoryFile<D>,
 ) -> Result<(), ReplaceError>
-    requires may { MayBeginAnew (KeepsConsole D.disk file.old) (with_checkpoint (IsOpen desk.now)) }
+    requires may { MayBeginAnew (KeepsConsole D.disk file.old) (with_checkpoint (Open desk.now)) }
     requires taken { checkpoint.now ≡ checkpoint_now desk.now.desk }
     requires start { MayStart desk.now.desk.table (Some checkpoint.now) }
-    ensures kept { OnOk result (KeepsConsole D.disk file.new (with_checkpoint (IsOpen desk.now))) }
-    ensures may_begin { OnOk result (MayBeginRun (with_checkpoint (IsOpen desk.now))) }
+    ensures kept { OnOk result (KeepsConsole D.disk file.new (with_checkpoint (Open desk.now))) }
+    ensures may_begin { OnOk result (MayBeginRun (with_checkpoint (Open desk.now))) }
     ensures refused { OnRefused result (KeepsConsoles D.disk file.old file.new) }
     ensures sync { file.new.journal.sync ≡ file.old.journal.sync }
     ensures fault { RecordsUnlessDisk D.disk (journal_result result) }
-    ensures any_moment { BeginningLeaves D.disk file.old file.new (with_checkpoint (IsOpen desk.now)) }
+    ensures any_moment { BeginningLeaves D.disk file.old file.new (with_checkpoint (Open desk.now)) }
 {
     cells_in_range(checkpoint.store());
     blocks_in_range(checkpoint.blocks());

@@ -7,7 +7,7 @@ ghost use Rattle.stm_history_text.specs.HistoryText.{history_text};
 ghost use Rattle.stm_history_text.specs.Starts.{format_for};
 ghost use Rattle.stm_journal.specs.Disk.{LeavesOnly};
 ghost use Rattle.stm_history_file.specs.Durable.{FitLines, KeepsAny, KeepsSome, KeepsHistory, KeepsEach, Records, LeavesHistory, LeavesOldOrAll};
-ghost use Rattle.stm_run.specs.declared.console.Console.TheVariants.{Open as IsOpen};
+ghost use Rattle.stm_run.specs.declared.console.Console.TheVariants.{Open};
 ghost use Rattle.stm_run.specs.ConsoleState.{events_of};
 ghost use Rattle.stm_journaled_run.specs.DurableRun.{RecordsUnlessDisk, KeepsConsole, start_in};
 ghost use Rattle.stm_journaled_run.specs.Committing.{LeavesBatches, LeavesBatchOf, LeavesBatchesOf, CommitLeaves, MayCommit};
@@ -36,16 +36,16 @@ fn record_after<D: Device>(
     events: &[Event],
     file: &mut HistoryFile<D>,
 ) -> Result<(), JournalError>
-    requires kept { KeepsSome D.disk file.old (start_in format (IsOpen desk.now)) }
-    requires fit { (s : Slow) × FitLines (start_in format (IsOpen desk.now)) s events.now }
+    requires kept { KeepsSome D.disk file.old (start_in format (Open desk.now)) }
+    requires fit { (s : Slow) × FitLines (start_in format (Open desk.now)) s events.now }
     requires format { file.old.format ≡ format }
-    ensures recorded { OnOk result (Records D.disk file.old file.new (start_in format (IsOpen desk.now)) events.now) }
+    ensures recorded { OnOk result (Records D.disk file.old file.new (start_in format (Open desk.now)) events.now) }
     ensures begun { OnOk result (file.new.begun ≡ true) }
     ensures sync { file.new.journal.sync ≡ file.old.journal.sync }
     ensures same_format { file.new.format ≡ file.old.format }
     ensures fault { RecordsUnlessDisk D.disk result }
     ensures refused { IsTrue D.disk.is_honest → IsErrOf result JournalError.TooLong → file.new ≡ file.old }
-    ensures any_moment { LeavesBatchOf D.disk file.old file.new (start_in format (IsOpen desk.now)) events.now }
+    ensures any_moment { LeavesBatchOf D.disk file.old file.new (start_in format (Open desk.now)) events.now }
 {
     file.record(alloc, desk.table(), desk.begins_from(), events)
 }
@@ -58,19 +58,19 @@ fn record_batch<D: Device>(
     events: &[Event],
     file: &mut HistoryFile<D>,
 ) -> Result<bool, JournalError>
-    requires kept { KeepsSome D.disk file.old (start_in format (IsOpen desk.now)) }
+    requires kept { KeepsSome D.disk file.old (start_in format (Open desk.now)) }
     requires begun { IsTrue D.disk.is_honest → file.old.begun ≡ true }
-    requires fit { (s : Slow) × FitLines (start_in format (IsOpen desk.now)) s events.now }
+    requires fit { (s : Slow) × FitLines (start_in format (Open desk.now)) s events.now }
     requires format { file.old.format ≡ format }
     ensures recorded { IfOk result (λ done. MatchBool done
-        (Records D.disk file.old file.new (start_in format (IsOpen desk.now)) events.now)
-        (KeepsEach D.disk file.old file.new (start_in format (IsOpen desk.now)))) }
+        (Records D.disk file.old file.new (start_in format (Open desk.now)) events.now)
+        (KeepsEach D.disk file.old file.new (start_in format (Open desk.now)))) }
     ensures begun { OnOk result (IsTrue D.disk.is_honest → file.new.begun ≡ true) }
     ensures many { IfOk result (λ done. done ≡ false → 1 < length events.now) }
     ensures sync { file.new.journal.sync ≡ file.old.journal.sync }
     ensures same_format { file.new.format ≡ file.old.format }
     ensures fault { RecordsUnlessDisk D.disk result }
-    ensures any_moment { LeavesBatchesOf D.disk file.old file.new (start_in format (IsOpen desk.now)) events.now }
+    ensures any_moment { LeavesBatchesOf D.disk file.old file.new (start_in format (Open desk.now)) events.now }
 {
     if events.len() > MOST_EVENTS {
         return Ok(false);
@@ -96,16 +96,16 @@ fn record_batches<D: Device>(
     events: &[Event],
     file: &mut HistoryFile<D>,
 ) -> Result<(), JournalError>
-    requires kept { KeepsSome D.disk file.old (start_in format (IsOpen desk.now)) }
+    requires kept { KeepsSome D.disk file.old (start_in format (Open desk.now)) }
     requires begun { IsTrue D.disk.is_honest → file.old.begun ≡ true }
-    requires fit { (s : Slow) × FitLines (start_in format (IsOpen desk.now)) s events.now }
+    requires fit { (s : Slow) × FitLines (start_in format (Open desk.now)) s events.now }
     requires format { file.old.format ≡ format }
-    ensures recorded { OnOk result (Records D.disk file.old file.new (start_in format (IsOpen desk.now)) events.now) }
+    ensures recorded { OnOk result (Records D.disk file.old file.new (start_in format (Open desk.now)) events.now) }
     ensures begun { OnOk result (IsTrue D.disk.is_honest → file.new.begun ≡ true) }
     ensures sync { file.new.journal.sync ≡ file.old.journal.sync }
     ensures same_format { file.new.format ≡ file.old.format }
     ensures fault { RecordsUnlessDisk D.disk result }
-    ensures any_moment { LeavesBatchesOf D.disk file.old file.new (start_in format (IsOpen desk.now)) events.now }
+    ensures any_moment { LeavesBatchesOf D.disk file.old file.new (start_in format (Open desk.now)) events.now }
 {
     if record_batch(alloc, desk, format, events, file)? {
         return Ok(());
@@ -122,15 +122,15 @@ fn begin_file<D: Replace + Drop>(
     format: u32,
     file: &mut HistoryFile<D>,
 ) -> Result<(), JournalError>
-    requires kept { KeepsSome D.disk file.old (start_in format (IsOpen desk.now)) }
-    requires fit { (s : Slow) × FitLines (start_in format (IsOpen desk.now)) s [] }
+    requires kept { KeepsSome D.disk file.old (start_in format (Open desk.now)) }
+    requires fit { (s : Slow) × FitLines (start_in format (Open desk.now)) s [] }
     requires format { file.old.begun ≡ true → file.old.format ≡ format }
-    ensures kept { OnOk result (KeepsEach D.disk file.old file.new (start_in format (IsOpen desk.now))) }
+    ensures kept { OnOk result (KeepsEach D.disk file.old file.new (start_in format (Open desk.now))) }
     ensures begun { OnOk result (file.new.begun ≡ true) }
     ensures format { OnOk result (file.new.format ≡ format) }
     ensures sync { file.new.journal.sync ≡ file.old.journal.sync }
     ensures fault { RecordsUnlessDisk D.disk result }
-    ensures any_moment { LeavesBatchOf D.disk file.old file.new (start_in format (IsOpen desk.now)) [] }
+    ensures any_moment { LeavesBatchOf D.disk file.old file.new (start_in format (Open desk.now)) [] }
 {
     if file.begun {
         Ok(())
@@ -149,11 +149,11 @@ fn record_from<D: Replace + Drop>(
     file: &mut HistoryFile<D>,
 ) -> Result<usize, JournalError>
     requires within { recorded ≤ length desk.now.desk.history }
-    requires kept { KeepsHistory D.disk file.old (start_in format (IsOpen desk.now)) (take recorded desk.now.desk.history) }
-    requires fit { (s : Slow) × FitLines (start_in format (IsOpen desk.now)) s (drop recorded desk.now.desk.history) }
+    requires kept { KeepsHistory D.disk file.old (start_in format (Open desk.now)) (take recorded desk.now.desk.history) }
+    requires fit { (s : Slow) × FitLines (start_in format (Open desk.now)) s (drop recorded desk.now.desk.history) }
     requires format { file.old.begun ≡ true → file.old.format ≡ format }
     ensures count { IfOk result (λ n. n ≡ length desk.now.desk.history) }
-    ensures recorded { OnOk result (KeepsHistory D.disk file.new (start_in format (IsOpen desk.now)) desk.now.desk.history) }
+    ensures recorded { OnOk result (KeepsHistory D.disk file.new (start_in format (Open desk.now)) desk.now.desk.history) }
     ensures begun { OnOk result (IsTrue D.disk.is_honest → file.new.begun ≡ true) }
     ensures format { OnOk result (file.new.format ≡ format) }
     ensures sync { file.new.journal.sync ≡ file.old.journal.sync }
@@ -161,8 +161,8 @@ fn record_from<D: Replace + Drop>(
     // A crash at any moment leaves the history from before, perhaps without the first batch, or with batches of these events.
     ensures any_moment { IsTrue D.disk.is_honest
         → LeavesOnly D.disk file.old.journal.device file.new.journal.device
-        (λ c. LeavesHistory file.old.journal.sync D.disk.fills_with_zeros file.old.begun (start_in format (IsOpen desk.now)) (take recorded desk.now.desk.history) [] c
-        ⊎ LeavesBatches file.old.journal.sync D.disk.fills_with_zeros (start_in format (IsOpen desk.now)) (take recorded desk.now.desk.history) (drop recorded desk.now.desk.history) c) }
+        (λ c. LeavesHistory file.old.journal.sync D.disk.fills_with_zeros file.old.begun (start_in format (Open desk.now)) (take recorded desk.now.desk.history) [] c
+        ⊎ LeavesBatches file.old.journal.sync D.disk.fills_with_zeros (start_in format (Open desk.now)) (take recorded desk.now.desk.history) (drop recorded desk.now.desk.history) c) }
 {
     let history = desk.history();
     begin_file(alloc, desk, format, file)?;
@@ -206,16 +206,16 @@ fn record_anew<D: Replace + Drop>(
     file: &mut HistoryFile<D>,
 ) -> Result<usize, JournalError>
     requires kept { KeepsAny D.disk file.old }
-    requires may_begin { MayBeginRun (IsOpen desk.now) }
+    requires may_begin { MayBeginRun (Open desk.now) }
     ensures count { IfOk result (λ n. n ≡ length desk.now.desk.history) }
-    ensures recorded { OnOk result (KeepsHistory D.disk file.new (start_in declaring_format (IsOpen desk.now)) desk.now.desk.history) }
+    ensures recorded { OnOk result (KeepsHistory D.disk file.new (start_in declaring_format (Open desk.now)) desk.now.desk.history) }
     ensures begun { OnOk result (file.new.begun ≡ true) }
     ensures format { OnOk result (file.new.format ≡ declaring_format) }
     ensures sync { file.new.journal.sync ≡ file.old.journal.sync }
     ensures fault { RecordsUnlessDisk D.disk result }
-    ensures fit { (s : Slow) × FitLines (start_in declaring_format (IsOpen desk.now)) s desk.now.desk.history }
+    ensures fit { (s : Slow) × FitLines (start_in declaring_format (Open desk.now)) s desk.now.desk.history }
     // A crash at any moment leaves what it might have left before, or the whole new file.
-    ensures any_moment { LeavesOldOrAll D.disk file.old file.new (history_text (start_in declaring_format (IsOpen desk.now)) desk.now.desk.history) }
+    ensures any_moment { LeavesOldOrAll D.disk file.old file.new (history_text (start_in declaring_format (Open desk.now)) desk.now.desk.history) }
 {
     let history = desk.history();
     are_in_range(history);
@@ -237,13 +237,13 @@ fn record_open<D: Replace + Drop>(
     file: &mut HistoryFile<D>,
 ) -> Result<usize, JournalError>
     requires { MayCommit (KeepsConsole D.disk file.old)
-        (IsOpen desk.now) recorded }
+        (Open desk.now) recorded }
     ensures count { IfOk result (λ n. n ≡ length desk.now.desk.history) }
     ensures recorded { OnOk result (KeepsConsole D.disk file.new
-        (IsOpen desk.now)) }
+        (Open desk.now)) }
     ensures sync { file.new.journal.sync ≡ file.old.journal.sync }
     ensures fault { RecordsUnlessDisk D.disk result }
-    ensures any_moment { CommitLeaves D.disk file.old file.new (IsOpen desk.now) recorded }
+    ensures any_moment { CommitLeaves D.disk file.old file.new (Open desk.now) recorded }
 {
     let history = desk.history();
     let later = later_events(history, recorded);

@@ -12,7 +12,7 @@ ghost use Rattle.stm_run.specs.Console.{step};
 ghost use Rattle.stm_machine.specs.Checkpoints.{MayStart};
 ghost use Rattle.stm_desk.specs.Checkpointed.{checkpoint_now};
 ghost use Rattle.stm_commands.specs.Checkpointing.{are_tickets_full};
-ghost use Rattle.stm_run.specs.declared.console.Console.TheVariants.{Open as IsOpen};
+ghost use Rattle.stm_run.specs.declared.console.Console.TheVariants.{Open};
 ghost use Rattle.stm_run.specs.ConsoleState.{present_desk, is_open, table_of, events_of, with_checkpoint};
 ghost use Rattle.stm_run.specs.Fitting.{VariablesFit};
 ghost use Rattle.stm_run.specs.Growing.{Grows};
@@ -122,7 +122,7 @@ impl DurableSession {
         ensures step { IfOk result (λ r. IsStep r (string_bytes self.old.held) (string_bytes self.new.held)
             self.new.console (step self.old.console line.now)) }
         ensures asked { IfOk result (λ r. asks_checkpoint r ≡ true
-            → self.new.console ≡ IsOpen (present_desk self.old.console)) }
+            → self.new.console ≡ Open (present_desk self.old.console)) }
         ensures made { IfOk result (λ r. reply_checkpoints (present_desk self.old.console) r
             ≡ line_checkpoints self.old.console line.now) }
         ensures grows { OnOk result (Grows self.old.console self.new.console) }

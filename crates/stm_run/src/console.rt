@@ -1,19 +1,19 @@
 //! What the console knows, and its answer to a line.
 
-ghost use Rattle.std.specs.Prelude.{◌≡◌, ◌++◌, [], true, false, length, Some, string_bytes, OnOk, OnErr, IfOk, IfSome};
+ghost use Rattle.std.specs.Prelude.{◌≡◌, ◌++◌, true, false, length, string_bytes, OnOk, OnErr, IfOk};
 ghost use Rattle.stm_lines.specs.WrittenFronts.{WritesText};
 ghost use Rattle.stm_commands.specs.Contents.{history_answer};
-ghost use Rattle.stm_commands.specs.OpenDesk.{Steps};
+ghost use Rattle.stm_commands.specs.OpenDesk.{Steps, without_jobs};
+ghost use Rattle.stm_commands.specs.Printing.{TakesStep};
 ghost use Rattle.stm_commands.specs.Questions.{events_answer};
 ghost use Rattle.stm_run.specs.Abstraction.{IsReply, IsStep, Replies, history_of, is_change, is_question, later_events_of};
 ghost use Rattle.stm_run.specs.Console.{initial_console, command_named, desk_step, on_console, word_step};
-ghost use Rattle.stm_machine.specs.Checkpoints.{MayStart};
 ghost use Rattle.stm_desk.specs.Checkpointed.{checkpoint_now};
-ghost use Rattle.stm_commands.specs.Checkpointing.{bare_checkpoint_step, checkpoint_step, makes_checkpoint, next_checkpoint_of};
+ghost use Rattle.stm_commands.specs.Checkpointing.{MayStartFrom, bare_checkpoint_step, checkpoint_step, makes_checkpoint, next_checkpoint_of};
 ghost use Rattle.stm_run.specs.ConsoleState.{present_desk, is_open, table_of, events_of, with_checkpoint};
 ghost use Rattle.stm_run.specs.LineCheckpoints.{asks_checkpoint, reply_checkpoints, is_streamed, command_checkpoints, word_checkpoints};
 ghost use Rattle.stm_run.specs.Declaring.{tvar_line, tvar_step};
-ghost use Rattle.stm_run.specs.declared.console.Console.TheVariants.{Open as IsOpen};
+ghost use Rattle.stm_run.specs.declared.console.Console.TheVariants.{Open};
 
 use crate::command::{Command, command_of};
 use crate::limit::EventLimit;
@@ -52,7 +52,7 @@ fn write_declared(number: u32, name: &str, out: &mut String) -> Result<(), NoMem
 #[tactic(auto, unfolding(stm_commands::specs::Contents::history_answer))]
 fn answer_history(desk: &OpenDesk, argument: &str, out: &mut String) -> Result<Reply, NoMemory>
     ensures reply { IfOk result (λ r. IsReply r (string_bytes out.old) (string_bytes out.new)
-        (IsOpen desk.now) (history_answer desk.now argument.now)) }
+        (Open desk.now) (history_answer desk.now argument.now)) }
     ensures asked { IfOk result (λ r. asks_checkpoint r ≡ false) }
     ensures made { IfOk result (λ r. reply_checkpoints desk.now r ≡ false) }
 {
@@ -66,7 +66,7 @@ fn answer_history(desk: &OpenDesk, argument: &str, out: &mut String) -> Result<R
 #[tactic(auto, unfolding(stm_commands::specs::Questions::events_answer))]
 fn answer_events(desk: &OpenDesk, argument: &str, out: &mut String) -> Result<Reply, NoMemory>
     ensures reply { IfOk result (λ r. IsReply r (string_bytes out.old) (string_bytes out.new)
-        (IsOpen desk.now) (events_answer desk.now argument.now)) }
+        (Open desk.now) (events_answer desk.now argument.now)) }
     ensures asked { IfOk result (λ r. asks_checkpoint r ≡ false) }
     ensures made { IfOk result (λ r. reply_checkpoints desk.now r ≡ false) }
 {
@@ -80,7 +80,7 @@ fn answer_events(desk: &OpenDesk, argument: &str, out: &mut String) -> Result<Re
 #[tactic(auto, unfolding(stm_commands::specs::Checkpointing::checkpoint_step))]
 fn answer_checkpoint(desk: &OpenDesk, argument: &str, out: &mut String) -> Result<Reply, NoMemory>
     ensures step { IfOk result (λ r. IsStep r (string_bytes out.old) (string_bytes out.new)
-        (IsOpen desk.now) (on_console (checkpoint_step desk.now argument.now))) }
+        (Open desk.now) (on_console (checkpoint_step desk.now argument.now))) }
     ensures made { IfOk result (λ r. reply_checkpoints desk.now r ≡ makes_checkpoint desk.now argument.now) }
     ensures streamed { IfOk result (λ r. is_streamed r ≡ false) }
 {
@@ -153,10 +153,10 @@ fn answer_on_desk_here(
     out: &mut String,
 ) -> Result<Reply, NoMemory>
     ensures step { IfOk result (λ r. IsStep r (string_bytes out.old) (string_bytes out.new)
-        (IsOpen desk.new) (on_console (desk_step desk.old command argument.now))) }
+        (Open desk.new) (on_console (desk_step desk.old command argument.now))) }
     ensures asked { IfOk result (λ r. asks_checkpoint r ≡ true → desk.new ≡ desk.old) }
     ensures made { IfOk result (λ r. reply_checkpoints desk.old r
-        ≡ command_checkpoints (IsOpen desk.old) command argument.now) }
+        ≡ command_checkpoints (Open desk.old) command argument.now) }
     ensures streamed { IfOk result (λ r. is_streamed r ≡ true
         → desk.new.desk.history ≡ desk.old.desk.history) }
 {
@@ -182,10 +182,10 @@ fn answer_on_desk<T: Threads + Sync>(
     out: &mut String,
 ) -> Result<Reply, NoMemory>
     ensures step { IfOk result (λ r. IsStep r (string_bytes out.old) (string_bytes out.new)
-        (IsOpen desk.new) (on_console (desk_step desk.old command argument.now))) }
+        (Open desk.new) (on_console (desk_step desk.old command argument.now))) }
     ensures asked { IfOk result (λ r. asks_checkpoint r ≡ true → desk.new ≡ desk.old) }
     ensures made { IfOk result (λ r. reply_checkpoints desk.old r
-        ≡ command_checkpoints (IsOpen desk.old) command argument.now) }
+        ≡ command_checkpoints (Open desk.old) command argument.now) }
     ensures streamed { IfOk result (λ r. is_streamed r ≡ true
         → desk.new.desk.history ≡ desk.old.desk.history) }
 {
@@ -214,7 +214,7 @@ impl Console {
 
     /// A console whose desk goes on from a history, and that keeps no job. Which tickets are out stays as it is.
     pub fn resume(alloc: Global, desk: Desk) -> Result<Console, NoMemory>
-        ensures { IfOk result (λ c. c ≡ IsOpen (record { desk = desk; jobs = [] })) }
+        ensures { IfOk result (λ c. c ≡ Open (without_jobs desk)) }
     {
         Ok(Console::Open(OpenDesk::resume(alloc, desk)?))
     }
@@ -224,7 +224,7 @@ impl Console {
     // It is apart from `open`, which mostly finds an open desk, since it has large temporaries.
     #[inline(never)]
     fn open_now(&mut self, alloc: Global) -> Result<(), NoMemory>
-        ensures opened { OnOk result (self.new ≡ IsOpen (present_desk self.old)) }
+        ensures opened { OnOk result (self.new ≡ Open (present_desk self.old)) }
         ensures same { OnErr result (self.new ≡ self.old) }
     {
         let desk = match self {
@@ -237,7 +237,7 @@ impl Console {
 
     /// Opens the desk, unless it is open.
     fn open(&mut self, alloc: Global) -> Result<(), NoMemory>
-        ensures opened { OnOk result (self.new ≡ IsOpen (present_desk self.old)) }
+        ensures opened { OnOk result (self.new ≡ Open (present_desk self.old)) }
         ensures same { OnErr result (self.new ≡ self.old) }
     {
         match self {
@@ -289,7 +289,7 @@ impl Console {
     ) -> Result<Reply, NoMemory>
         ensures step { IfOk result (λ r. IsStep r (string_bytes out.old) (string_bytes out.new)
             self.new (word_step self.old (command_named word.now) argument.now)) }
-        ensures asked { IfOk result (λ r. asks_checkpoint r ≡ true → self.new ≡ IsOpen (present_desk self.old)) }
+        ensures asked { IfOk result (λ r. asks_checkpoint r ≡ true → self.new ≡ Open (present_desk self.old)) }
         ensures made { IfOk result (λ r. reply_checkpoints (present_desk self.old) r
             ≡ word_checkpoints self.old (command_named word.now) argument.now) }
         ensures streamed { IfOk result (λ r. is_streamed r ≡ true
@@ -315,7 +315,7 @@ impl Console {
     ) -> Result<Reply, NoMemory>
         ensures step { IfOk result (λ r. IsStep r (string_bytes out.old) (string_bytes out.new)
             self.new (word_step self.old (command_named word.now) argument.now)) }
-        ensures asked { IfOk result (λ r. asks_checkpoint r ≡ true → self.new ≡ IsOpen (present_desk self.old)) }
+        ensures asked { IfOk result (λ r. asks_checkpoint r ≡ true → self.new ≡ Open (present_desk self.old)) }
         ensures made { IfOk result (λ r. reply_checkpoints (present_desk self.old) r
             ≡ word_checkpoints self.old (command_named word.now) argument.now) }
         ensures streamed { IfOk result (λ r. is_streamed r ≡ true
@@ -407,7 +407,7 @@ impl Console {
     pub fn next_checkpoint(&self) -> Result<Option<Checkpoint>, NoMemory>
         requires { is_open self.now ≡ true }
         ensures made { IfOk result (λ o. o ≡ next_checkpoint_of (present_desk self.now)) }
-        ensures start { IfOk result (λ o. IfSome o (λ c. MayStart (table_of self.now) (Some c))) }
+        ensures start { IfOk result (MayStartFrom (table_of self.now)) }
     {
         match self {
             Console::Declaring { .. } => unreachable!(),
@@ -431,8 +431,7 @@ impl Console {
     /// Makes the checkpoint that the open desk was asked for, unless tickets could run out after it, and appends the answer.
     pub fn answer_checkpoint(&mut self, out: &mut String) -> Result<(), NoMemory>
         requires { is_open self.old ≡ true }
-        ensures { OnOk result (Steps self.new (string_bytes out.old) (string_bytes out.new)
-            (on_console (bare_checkpoint_step (present_desk self.old)))) }
+        ensures { TakesStep result self.new out.old out.new (on_console (bare_checkpoint_step (present_desk self.old))) }
     {
         match self {
             Console::Declaring { .. } => unreachable!(),

@@ -155,9 +155,13 @@ abbrev pub after_word : PartialScript → Option Begun → StormWord → List �
 after_word r None word argument = before_sections r word argument
 after_word r (Some b) word argument = after_task r b word argument
 
+-- and the section under way, if any has begun, is that of the script
+abbrev pub after_known : PartialScript → StormWord → List ℕ → Result PartialScript Reason
+after_known r word argument = after_word r r.begun word argument
+
 -- a line by its word
 abbrev pub after_words : PartialScript → Option StormWord → List ℕ → Result PartialScript Reason
-after_words r (Some word) argument = after_word r r.begun word argument
+after_words r (Some word) argument = after_known r word argument
 after_words r None argument = Err reason.Command
 
 -- a line by its judgement

@@ -1,9 +1,8 @@
 //! `checkpoint`: the history begins from where the desk is.
 
-ghost use Rattle.std.specs.Prelude.{◌≡◌, Some, length, IfOk, IfSome};
-ghost use Rattle.stm_machine.specs.Checkpoints.{MayStart};
+ghost use Rattle.std.specs.Prelude.{◌≡◌, length, IfOk};
 ghost use Rattle.stm_desk.specs.Checkpointed.{checkpoint_now};
-ghost use Rattle.stm_commands.specs.Checkpointing.{begun_anew, checkpoint_line, bare_checkpoint_step, next_checkpoint_of};
+ghost use Rattle.stm_commands.specs.Checkpointing.{MayStartFrom, begun_anew, checkpoint_line, bare_checkpoint_step, next_checkpoint_of};
 ghost use Rattle.stm_commands.specs.Printing.{Prints, TakesStep};
 
 use crate::open_desk::OpenDesk;
@@ -24,7 +23,7 @@ impl OpenDesk {
     /// The checkpoint of the present state, from which the history can begin (`begin_from`); none if tickets could run out after it.
     pub fn next_checkpoint(&self) -> Result<Option<Checkpoint>, NoMemory>
         ensures made { IfOk result (λ o. o ≡ next_checkpoint_of self.now) }
-        ensures start { IfOk result (λ o. IfSome o (λ c. MayStart self.now.desk.table (Some c))) }
+        ensures start { IfOk result (MayStartFrom self.now.desk.table) }
     {
         match self.desk.next_checkpoint() {
             Ok(checkpoint) => Ok(Some(checkpoint)),
