@@ -3,6 +3,7 @@ use Rattle.std.specs.Prelude.{◌≡◌, ℕ, IsTrue, List, [], ◌++◌, Option
 use Rattle.std.specs.Io.KnownBytes.{Appends}
 use Rattle.stm_history.specs.declared.loading.Loaded.{Loaded}
 use Rattle.stm_lines.specs.WrittenFronts.{WritesFront}
+use Rattle.stm_journal.specs.declared.sync_mode.SyncMode.{SyncMode}
 use Rattle.stm_journal.specs.Disk.{Disk, LeavesOnly}
 use Rattle.stm_history_file.specs.declared.recording.HistoryFile.{HistoryFile}
 use Rattle.stm_lines.specs.Lines.{lines_of, whole_lines_of}
@@ -28,13 +29,17 @@ abbrev pub run_view : Options → Option Loaded → Option (List ℕ) → Option
 run_view options loaded input left before after =
     record { options = options; loaded = loaded; input = input; left = left; before = before; after = after }
 
--- the answers to these lines, by a run with these options that goes on from what was loaded
-abbrev pub run_answers : {Cause : Type 0} → Options → Option Loaded → List (Turn Cause) → List ℕ
-run_answers options loaded turns = answers_by options.checkpoint_every (resumed_console options.max_events loaded) turns
+-- the console before the first line of the run
+abbrev pub first_console : RunView → Console
+first_console run = resumed_console run.options.max_events run.loaded
+
+-- the answers to these lines, by the run
+abbrev pub run_answers : {Cause : Type 0} → RunView → List (Turn Cause) → List ℕ
+run_answers run turns = answers_by run.options.checkpoint_every (first_console run) turns
 
 -- the console after them
-abbrev pub console_after : {Cause : Type 0} → Options → Option Loaded → List (Turn Cause) → Console
-console_after options loaded turns = states_after options.checkpoint_every (resumed_console options.max_events loaded) turns
+abbrev pub console_after : {Cause : Type 0} → RunView → List (Turn Cause) → Console
+console_after run turns = states_after run.options.checkpoint_every (first_console run) turns
 
 -- P holds of the lines of the input, if that is known. Some of their checkpoints may have been refused, each for a cause.
 abbrev pub OverInput : {D : Type 0} → (disk : Disk D) → RunView → (List (Turn (RefusalCause disk)) → Type 0) → Type 0
@@ -44,20 +49,20 @@ OverInput disk run P = IfSome run.input (λ input. ForTurns (RefusalCause disk) 
 -- the answers to all lines were written, and the file has exactly the history of all lines
 abbrev pub AnswersAllLines : {D : Type 0} → Disk D → HistoryFile D → RunView → Type 0
 AnswersAllLines disk f run = OverInput disk run (λ turns.
-    Appends run.before run.after (run_answers run.options run.loaded turns)
-    × KeepsConsole disk f (console_after run.options run.loaded turns))
+    Appends run.before run.after (run_answers run turns)
+    × KeepsConsole disk f (console_after run turns))
 
 -- the answers to the lines that were whole in what was taken of the input were written
 abbrev pub AnswersWholeLines : {D : Type 0} → Disk D → RunView → Type 0
 AnswersWholeLines disk run =
     IfSome run.input (λ input. (taken rest : List ℕ) × (input ≡ taken ++ rest) × (run.left ≡ Some rest)
     × ForTurns (RefusalCause disk) (whole_lines_of taken) (λ turns.
-    Appends run.before run.after (run_answers run.options run.loaded turns)))
+    Appends run.before run.after (run_answers run turns)))
 
 -- a front of the answers was written
 abbrev pub AnswersInPart : {D : Type 0} → Disk D → RunView → Type 0
 AnswersInPart disk run =
-    OverInput disk run (λ turns. WritesFront run.before run.after (run_answers run.options run.loaded turns))
+    OverInput disk run (λ turns. WritesFront run.before run.after (run_answers run turns))
 
 -- The run has failed.
 pub record RunFails {D : Type 0} (disk : Disk D) (run : RunView) (e : DurableFault) : Type 0 where
@@ -72,23 +77,29 @@ pub record RunFails {D : Type 0} (disk : Disk D) (run : RunView) (e : DurableFau
 -- the file has exactly the history of the lines whose answers were written
 abbrev pub KeepsAnswered : {D : Type 0} → Disk D → HistoryFile D → RunView → Type 0
 KeepsAnswered disk f run = OverInput disk run (λ turns. (written : List ℕ) × Appends run.before run.after written
-    × HasCommitted disk f run.options.checkpoint_every (resumed_console run.options.max_events run.loaded) turns written)
+    × HasCommitted disk f run.options.checkpoint_every (first_console run) turns written)
+
+-- this file covers what was written of a run whose lines are these turns
+abbrev pub CoversTurns : {D : Type 0} {Cause : Type 0} → Disk D → SyncMode → RunView → List (Turn Cause) → List ℕ → List ℕ → Type 0
+CoversTurns disk sync run turns written file =
+    CoversAnswers sync disk.fills_with_zeros run.options.checkpoint_every (first_console run) turns written file
+
+-- so it does for some way in which checkpoints of the input's lines were refused
+abbrev pub CoversSomeTurns : {D : Type 0} → Disk D → SyncMode → RunView → List ℕ → List ℕ → List ℕ → Type 0
+CoversSomeTurns disk sync run input written file =
+    ForTurns (RefusalCause disk) (lines_of input) (λ turns. CoversTurns disk sync run turns written file)
 
 -- a crash now leaves a file that covers what was written
 abbrev pub CoversWritten : {D : Type 0} → Disk D → HistoryFile D → HistoryFile D → RunView → Type 0
 CoversWritten disk old new run =
     IsTrue disk.is_honest → OverInput disk run (λ turns. (written : List ℕ) × Appends run.before run.after written
-    × ((c : List ℕ) → disk.may_leave new.journal.device c
-    → CoversAnswers old.journal.sync disk.fills_with_zeros run.options.checkpoint_every
-    (resumed_console run.options.max_events run.loaded) turns written c))
+    × ((c : List ℕ) → disk.may_leave new.journal.device c → CoversTurns disk old.journal.sync run turns written c))
 
 -- a crash at any moment of the run leaves the history from before it, and a front of the events of its lines
 abbrev pub RunLeaves : {D : Type 0} → Disk D → HistoryFile D → HistoryFile D → RunView → Type 0
 RunLeaves disk old new run =
     IsTrue disk.is_honest → IfSome run.input (λ input.
-    LeavesOnly disk old.journal.device new.journal.device (λ c. ForTurns (RefusalCause disk) (lines_of input) (λ turns.
-    CoversAnswers old.journal.sync disk.fills_with_zeros run.options.checkpoint_every
-    (resumed_console run.options.max_events run.loaded) turns [] c)))
+    LeavesOnly disk old.journal.device new.journal.device (CoversSomeTurns disk old.journal.sync run input []))
 
 -- The file after the run, whatever its result.
 pub record KeepsRun {D : Type 0} (disk : Disk D) (old new : HistoryFile D) (run : RunView) (result : Result (Unit {0}) DurableFault) : Type 0 where
