@@ -9,9 +9,13 @@ use Rattle.stm_desk.specs.DeskView.{DeskView, state_of}
 use Rattle.stm_commands.specs.declared.jobs.KeptJob.{KeptJob}
 use Rattle.stm_commands.specs.Jobs.{job_at}
 use Rattle.stm_commands.specs.OpenDesk.{HandedOut}
-use Rattle.stm_commands.specs.OpenInvariant.{refusal_unevaluated, JobStands, JobsStand, job_kept, IsStored, AreStored, HasStore, HaveStores, HasGrown}
+use Rattle.stm_commands.specs.OpenInvariant.{refusal_unevaluated, JobStands, JobsStand, handed_out, job_kept, job_within, IsStored, AreStored, HasStore, HaveStores, HasGrown}
 use Rattle.stm_commands.proofs.GoneTickets.{IsGiven, gone_from}
 use Rattle.stm_commands.proofs.LegalDesks.{grown_state, grown_legal, grown_possible}
+
+-- ---- a copy of a job
+pub copied_job : (k : KeptJob) (j : Job) → j ≡ job_within k → handed_out k.at_take.value j ≡ job_kept k
+copied_job k j e = ap (λ (x : Job). handed_out k.at_take.value x) e
 
 -- ---- a store that is dropped
 abbrev without_store : KeptJob → KeptJob

@@ -51,6 +51,10 @@ JobsStand d (j ∷ js) = JobStands d j × JobsStand d js
 abbrev pub job_kept : KeptJob → HandedOut
 job_kept k = record { ticket = k.ticket; block = k.block; store = k.at_take.value }
 
+-- the job of a kept job, without a store
+abbrev pub job_within : KeptJob → Job
+job_within k = record { ticket = k.ticket; block = k.block }
+
 -- the job has its store
 abbrev pub IsStored : KeptJob → Type 0
 IsStored k = k.store ≡ Some k.at_take.value

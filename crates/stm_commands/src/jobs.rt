@@ -4,7 +4,7 @@ ghost use Rattle.std.specs.Prelude.{◌≡◌, List, map, IfOk, option_map, IfSo
 ghost use Rattle.stm_events.specs.SlowDesk.{Waiter};
 ghost use Rattle.std.specs.Option.{option_copied};
 ghost use Rattle.stm_commands.specs.Jobs.{job_at};
-ghost use Rattle.stm_commands.specs.OpenInvariant.{handed_out, job_kept, IsStored, AreStored, HasStore, HaveStores};
+ghost use Rattle.stm_commands.specs.OpenInvariant.{handed_out, job_kept, job_within, IsStored, AreStored, HasStore, HaveStores};
 
 use std::alloc::Global;
 use std::snapshot::Snapshot;
@@ -26,7 +26,7 @@ pub struct KeptJob {
 impl KeptJob {
     /// A copy of the job.
     pub fn job(&self) -> Result<Job, NoMemory>
-        ensures { IfOk result (λ j. handed_out self.now.at_take.value j ≡ job_kept self.now) }
+        ensures { IfOk result (λ j. j ≡ job_within self.now) }
     {
         Ok(Job {
             ticket: self.ticket,

@@ -2,8 +2,10 @@
 -- `old` and `new` are those that the writer had before and has after the call. None if they aren't known.
 use Rattle.std.specs.Prelude.{◌≡◌, ◌≢◌, ℕ, List, ◌++◌, Option, Some, Result, Ok, Err, IfSome}
 use Rattle.std.specs.Io.KnownBytes.{Appends}
+use Rattle.stm_history_text.specs.declared.writing.WriteFault.{WriteFault}
+use Rattle.stm_history_text.specs.declared.writing.WriteFault.TheVariants as write_fault
 use Rattle.stm_lines.specs.declared.run_fault.RunFault.{RunFault}
-use Rattle.stm_lines.specs.declared.run_fault.RunFault.TheVariants.{Read}
+use Rattle.stm_lines.specs.declared.run_fault.RunFault.TheVariants.{Read, Write, NoMemory}
 use Rattle.stm_lines.specs.WrittenFronts.{WritesFront}
 use Rattle.stm_run.specs.declared.console.Console.{Console}
 use Rattle.stm_run.specs.Console.{answer_to, console_text, state_after, whole_lines_text}
@@ -26,6 +28,12 @@ abbrev pub WritesRun : ℕ → Option (List ℕ) → Option (List ℕ) → Optio
 -- the whole text of the input
 WritesRun max_events input left old new (Ok done) = IfSome input (λ i. Appends old new (console_text max_events i))
 WritesRun max_events input left old new (Err e) = FailsRun max_events input left old new e
+
+-- ---- a history
+-- what the fault of writing a history is to a run
+abbrev pub run_fault_of : WriteFault → RunFault
+run_fault_of write_fault.Write = Write
+run_fault_of write_fault.NoMemory = NoMemory
 
 -- ---- one line
 -- what was written of the answer to a line, and which console comes after it

@@ -6,7 +6,7 @@ ghost use Rattle.stm_lines.specs.WrittenFronts.{WritesFront};
 ghost use Rattle.stm_run.specs.declared.console.Console.{Console as AnyConsole};
 ghost use Rattle.stm_run.specs.Abstraction.{IsStep, reply_text};
 ghost use Rattle.stm_run.specs.Console.{initial_console};
-ghost use Rattle.stm_run.specs.WrittenRun.{WritesAnswer};
+ghost use Rattle.stm_run.specs.WrittenRun.{WritesAnswer, run_fault_of};
 
 use crate::console::Console;
 use crate::limit::EventLimit;
@@ -22,7 +22,9 @@ use stm_store::Seed;
 
 /// What the fault of writing a history is to a run.
 pub fn fault_of(fault: WriteFault) -> RunFault
-    ensures { result ≢ RunFault.Read }
+    ensures value { result ≡ run_fault_of fault }
+    // No reader is called, so none fails.
+    ensures unread { result ≢ RunFault.Read }
 {
     match fault {
         WriteFault::Write => RunFault::Write,
