@@ -222,7 +222,7 @@ fn evaluate_by_threads<T: Threads + Sync>(
 pub fn evaluate_here(desk: &mut Desk) -> Result<Evaluation, NoMemory>
     ensures done { IfOk result (λ p. delivered_so_far desk.new p ≡ evaluated desk.old) }
     ensures grown { HasGrown desk.old desk.new }
-    ensures store { (state_of desk.new).store ≡ (state_of desk.old).store }
+    ensures same { (state_of desk.new).store ≡ (state_of desk.old).store }
 {
     // The queue is known to be right by this.
     let _events = desk.history();
@@ -280,7 +280,7 @@ pub fn evaluate_queued<T: Threads + Sync>(
     requires legal { IsLegalFrom (start_state desk.old) desk.old.history }
     ensures done { IfOk result (λ p. delivered_so_far desk.new p ≡ evaluated desk.old) }
     ensures grown { HasGrown desk.old desk.new }
-    ensures store { (state_of desk.new).store ≡ (state_of desk.old).store }
+    ensures same { (state_of desk.new).store ≡ (state_of desk.old).store }
 {
     if is_work_for_one(desk, threading) {
         evaluate_here(desk)

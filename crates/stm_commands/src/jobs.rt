@@ -66,8 +66,10 @@ pub fn with_store(alloc: Global, store: &Frozen, jobs: Vec<Job>) -> Result<Vec<K
 
 /// The job of a number, which counts from 1.
 pub fn job_of_number(jobs: &[KeptJob], number: u32) -> Option<&KeptJob>
+    // Seen with the stores at their `take`, it is the job of this number.
     ensures kept { option_map job_kept (option_copied result)
         ≡ job_at number (map job_kept jobs.now) }
+    // If each of these jobs whose ticket waits has its store, so has this one.
     ensures stored { (ws : List Waiter) → HaveStores ws jobs.now
         → IfSome (option_copied result) (λ k. HasStore ws k) }
 {

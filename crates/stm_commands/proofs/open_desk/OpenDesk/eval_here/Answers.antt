@@ -5,10 +5,10 @@ use Rattle.stm_commands.proofs.Growing.{kept_grown}
 use Rattle.stm_commands.proofs.open_desk.OpenDesk.eval_here.Goals as goal
 
 pub invariant_of-self : goal.invariant_of-self
-invariant_of-self c = kept_grown _ _ _ _ c.evaluate_here.ensures.grown c.evaluate_here.ensures.store c.self.invariant
+invariant_of-self c = kept_grown _ _ _ _ c.evaluate_here.ensures.grown c.evaluate_here.ensures.same c.self.invariant
 
 pub invariant_of-self-2 : goal.invariant_of-self-2
-invariant_of-self-2 c = kept_grown _ _ _ _ c.evaluate_here.ensures.grown c.evaluate_here.ensures.store c.self.invariant
+invariant_of-self-2 c = kept_grown _ _ _ _ c.evaluate_here.ensures.grown c.evaluate_here.ensures.same c.self.invariant
 
 pub returns : goal.returns
 returns c =
