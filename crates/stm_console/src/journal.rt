@@ -1,9 +1,9 @@
 //! A run that keeps its history in a file.
 
-ghost use Rattle.std.specs.Prelude.{◌≡◌, ◌≤◌, ℕ, List, Option, None, IsTrue, IfSome, length};
+ghost use Rattle.std.specs.Prelude.{◌≡◌, ◌≤◌, ℕ, List, Option, None, IfSome, length};
 ghost use Rattle.stm_journaled_run.specs.DurableRun.{durable_status};
 ghost use Rattle.stm_journal.specs.Disk.{IsSettled};
-ghost use Rattle.stm_console.specs.Journal.{load_status, open_status, unopened_status, journal_status};
+ghost use Rattle.stm_console.specs.Journal.{HasBytes, load_status, open_status, unopened_status, journal_status};
 ghost use Rattle.stm_console.specs.Program.{RunsOn, streams};
 ghost use Rattle.stm_options.specs.Options.{AreRunOptions};
 
@@ -170,7 +170,7 @@ fn run_on_device<T: Threads + RandomSource + Sync, D: Replace + Drop, R: Read, W
 ) -> u8
     requires options { AreRunOptions options }
     requires settled { IsSettled D.disk device }
-    ensures { (contents : Option (List ℕ)) → IfSome contents (λ bytes. IsTrue D.disk.is_honest × (D.disk.seen device ≡ bytes))
+    ensures { (contents : Option (List ℕ)) → HasBytes D.disk contents device
         → RunsOn options contents (streams (R.remaining reader.old) (R.remaining reader.new)
         (W.contents writer.old) (W.contents writer.new)) result }
 {
