@@ -1,5 +1,5 @@
 -- `label`, `block` and `board`: what waiting blocks are called, their texts, and all of them at once.
-use Rattle.std.specs.Prelude.{ℕ, ◌||◌, nat_eq, if◌then◌else◌, List, [], ◌∷◌, ◌++◌, Option, Some, None, codes, decimal, length, take, drop, ◌==◌}
+use Rattle.std.specs.Prelude.{ℕ, ◌||◌, nat_eq, if◌then◌else◌, List, [], ◌∷◌, ◌++◌, Option, Some, None, codes, decimal, length, ◌==◌}
 use Rattle.std.proofs.Math.Utf8.{encode}
 use Rattle.std.specs.Str.{chars}
 use Rattle.stm_check.specs.TypedBlock.{Block}
@@ -12,7 +12,7 @@ use Rattle.stm_events.specs.SlowDesk.{Waiter, standing}
 use Rattle.stm_machine.specs.JobsHandedOut.{block_at}
 use Rattle.stm_desk.specs.DeskView.{DeskView, state_of, labels_of, with_event}
 use Rattle.stm_desk.specs.Refusals.{label_refusal}
-use Rattle.stm_lines.specs.LineClass.{command_len, skip_blanks}
+use Rattle.stm_lines.specs.LineClass.{argument_of, word_of}
 use Rattle.stm_lines.specs.NumberArgument.{number_argument}
 use Rattle.stm_commands.specs.Arguments.{with_number, with_nothing, argument_refused}
 use Rattle.stm_commands.specs.Contents.{standing_text}
@@ -31,7 +31,7 @@ labelled_line t label = codes "labelled " ++ decimal t ++ 32 ∷ label_text labe
 -- the first word of a text, which nothing follows, if it is a label; the empty one if there is no word
 unfoldable pub label_argument : List ℕ → Option (List ℕ)
 label_argument text =
-    if length (skip_blanks (drop (command_len text) text)) == 0 then label_in (take (command_len text) text) else None
+    if length (argument_of text) == 0 then label_in (word_of text) else None
 
 -- a ticket and a label
 abbrev pub ticket_and_label : Option ℕ → Option (List ℕ) → Option (ℕ × List ℕ)
@@ -42,7 +42,7 @@ ticket_and_label None label = None
 -- the ticket and the label of an argument: its first word, and the rest
 unfoldable pub labelling : List ℕ → Option (ℕ × List ℕ)
 labelling text =
-    ticket_and_label (number_argument (take (command_len text) text)) (label_argument (skip_blanks (drop (command_len text) text)))
+    ticket_and_label (number_argument (word_of text)) (label_argument (argument_of text))
 
 -- `label` of a ticket, which is done or refused for this reason
 abbrev pub label_ticket_step : DeskView → ℕ → List ℕ → Option LabelError → DeskView × List ℕ

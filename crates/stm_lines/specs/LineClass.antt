@@ -32,9 +32,17 @@ pub data LineClass : Type 0 where
   NotAscii : LineClass
   Words : List ℕ → List ℕ → LineClass
 
--- the command word, up to the next blank or the end, and the argument after the blanks that follow it
+-- the first word of a text, up to the next blank or the end
+abbrev pub word_of : List ℕ → List ℕ
+word_of text = take (command_len text) text
+
+-- the rest of it, after the blanks that follow the word
+abbrev pub argument_of : List ℕ → List ℕ
+argument_of text = skip_blanks (drop (command_len text) text)
+
+-- the command word and its argument
 unfoldable pub class_of_words : List ℕ → LineClass
-class_of_words text = Words (take (command_len text) text) (skip_blanks (drop (command_len text) text))
+class_of_words text = Words (word_of text) (argument_of text)
 
 -- the most bytes of a line
 abbrev pub longest_line : ℕ

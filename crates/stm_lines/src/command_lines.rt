@@ -50,7 +50,8 @@ fn skip_rest<R: Read, L: Ledger>(
 }
 
 /// Reads the next line. One carriage return before the line feed is dropped. Of a line that is too long the first 65,538 bytes
-/// are kept, and the others are taken.
+/// are kept, and the others are taken. The clauses say only that the line is judged as the one without the carriage return, and not
+/// which bytes are kept.
 pub fn next_command_line<R: Read, L: Ledger>(
     lines: &mut LineReader,
     calls: &mut Calls<R, L>,

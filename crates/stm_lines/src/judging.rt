@@ -1,7 +1,7 @@
 //! The judgement of a line before a command sees it.
 
-ghost use Rattle.std.specs.Prelude.{◌≡◌, ◌≤◌, drop, length, take};
-ghost use Rattle.stm_lines.specs.LineClass.{blanks_len, command_len, skip_blanks, class_of_words, has_high_byte, line_class};
+ghost use Rattle.std.specs.Prelude.{◌≡◌, ◌≤◌, drop, length};
+ghost use Rattle.stm_lines.specs.LineClass.{blanks_len, command_len, skip_blanks, word_of, argument_of, class_of_words, has_high_byte, line_class};
 ghost use Rattle.stm_lines.specs.Judged.{line_class_of};
 
 use stm_parse::bytes::is_blank;
@@ -67,8 +67,8 @@ fn has_high_byte(line: &[u8]) -> bool
 
 /// The first word of a text, up to the next blank or the end, and the rest after the blanks that follow it.
 pub fn first_word(text: &[u8]) -> (&[u8], &[u8])
-    ensures word { result.0.now ≡ take (command_len text.now) text.now }
-    ensures rest { result.1.now ≡ skip_blanks (drop (command_len text.now) text.now) }
+    ensures word { result.0.now ≡ word_of text.now }
+    ensures rest { result.1.now ≡ argument_of text.now }
 {
     let len = command_len(text);
     (&text[..len], skip_blanks(after(text, len)))

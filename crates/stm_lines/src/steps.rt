@@ -26,6 +26,7 @@ impl<L: Ledger> Model for Steps<L> {
 impl<L: Ledger> Steps<L> {
     /// No call, counted by a new ledger.
     pub fn new(blank: Blank) -> Steps<L>
+        // A blank of this kind of ledger that isn't opened yet: no call is counted in it.
         requires name { blank.name ≡ L.name }
         requires parts { blank.parts ≡ L.parts }
         requires some { 0 < blank.parts }
