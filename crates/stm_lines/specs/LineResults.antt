@@ -1,9 +1,10 @@
 -- What a call that reads a line takes of the input, by its result.
-use Rattle.std.specs.Prelude.{◌≡◌, ℕ, Bool, List, Option, Result, Ok, Err}
+use Rattle.std.specs.Prelude.{◌≡◌, ℕ, ◌+◌, ◌<◌, ◌≤◌, ⊤, Bool, List, Option, Result, Ok, Err}
 use Rattle.stm_lines.specs.LineReading.{IsCommandLine}
 use Rattle.stm_lines.specs.TakenLines.{IsRead, IsSkipped, StopsInLine}
 use Rattle.stm_lines.specs.declared.command_lines.CommandLine.{CommandLine}
 use Rattle.stm_lines.specs.declared.line_reader.Line.{Line}
+use Rattle.stm_lines.specs.declared.line_reader.Line.TheVariants.{Whole, Last, TooLong, End}
 use Rattle.stm_lines.specs.declared.line_reader.LineReader.{LineReader}
 use Rattle.stm_lines.specs.declared.run_fault.RunFault.{RunFault}
 use Rattle.stm_lines.specs.declared.run_fault.RunFault.TheVariants.{Read}
@@ -13,6 +14,15 @@ use Rattle.stm_lines.specs.declared.run_fault.RunFault.TheVariants.{Read}
 abbrev pub ReadsLine : ℕ → Option (List ℕ) → Option (List ℕ) → LineReader → Result Line RunFault → Type 0
 ReadsLine limit old new lines (Ok line) = IsRead line limit old new lines.line.items
 ReadsLine limit old new lines (Err e) = StopsInLine e old new lines.chunk lines.line.items
+
+-- Of what was still to come no more is left after a line of this many bytes, and after one that a line feed ended less, by more than its
+-- bytes.
+abbrev pub LeavesLess : Result Line RunFault → ℕ → ℕ → ℕ → Type 0
+LeavesLess (Ok Whole) len new old = new + len < old
+LeavesLess (Ok Last) len new old = new ≤ old
+LeavesLess (Ok TooLong) len new old = new ≤ old
+LeavesLess (Ok End) len new old = new ≤ old
+LeavesLess (Err e) len new old = ⊤
 
 -- The next line of a run or a script was read into a line reader, or reading stopped in it: only bytes of one line were taken, and no line
 -- feed, and after a read fault all bytes that were read.

@@ -4,7 +4,7 @@ ghost use Rattle.std.specs.Prelude.{◌≡◌, ◌++◌, ◌+◌, ◌↔◌, [],
 ghost use Rattle.std.specs.Io.KnownBytes.{Consumes, IsAtEnd, Keeps};
 ghost use Rattle.memchr.specs.Find.{IsFirstByte, is_byte};
 ghost use Rattle.stm_lines.specs.CountedCalls.{CountsCalls};
-ghost use Rattle.stm_lines.specs.LineResults.{ReadsLine, SkipsRest};
+ghost use Rattle.stm_lines.specs.LineResults.{LeavesLess, ReadsLine, SkipsRest};
 ghost use Rattle.stm_lines.specs.Lines.{drop_return, NoLineFeed};
 ghost use Rattle.stm_lines.specs.TakenLines.{HasLineFeed, IsPart, IsSkippedPart};
 ghost use Rattle.stm_lines.specs.Unread.{most_unread, unread};
@@ -217,10 +217,9 @@ impl LineReader {
         ensures called { CountsCalls calls.old calls.new }
         // No call is made if the line is whole in the bytes that were read.
         ensures buffered { HasLineFeed self.old.chunk → calls.new.left ≡ calls.old.left }
-        ensures fewer { OnOk result (most_unread self.new calls.new ≤ most_unread self.old calls.old) }
         // By more than the bytes of a line that a line feed ended.
-        ensures shorter { result ≡ Ok Line.Whole → most_unread self.new calls.new
-            + length self.new.line.items < most_unread self.old calls.old }
+        ensures shorter { LeavesLess result (length self.new.line.items) (most_unread self.new calls.new)
+            (most_unread self.old calls.old) }
     {
         self.line.clear();
         'parts: loop {

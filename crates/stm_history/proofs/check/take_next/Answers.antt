@@ -1,4 +1,3 @@
-use Rattle.std.proofs.Common.{refl}
 use Rattle.stm_history.proofs.LineByLine.{fails_at, fails_long, fails_reading, takes_last, takes_line, takes_none}
 use Rattle.stm_history.proofs.check.take_next.Goals as goal
 
@@ -6,7 +5,7 @@ pub returns-in-Ok-clause-taken : goal.returns-in-Ok-clause-taken
 returns-in-Ok-clause-taken g c =
     let h = rw c.in-Ok-Whole.field-0-is at c.in-Ok-Whole.ensures.read in
     let fewer = rw c.in-Ok-Whole.field-0-is at c.in-Ok-Whole.ensures.shorter in
-    takes_line _ _ _ _ _ _ _ _ _ h.0 (rw c.line.ensures at c.in-Ok.ensures.done) (fewer refl)
+    takes_line _ _ _ _ _ _ _ _ _ h.0 (rw c.line.ensures at c.in-Ok.ensures.done) fewer
 
 pub returns-in-Err-take_whole-clause-fault : goal.returns-in-Err-take_whole-clause-fault
 returns-in-Err-take_whole-clause-fault g c =

@@ -13,11 +13,6 @@ returns-in_err-take_part-clause-read g c =
 pub returns-in-Whole-clause-shorter : goal.returns-in-Whole-clause-shorter
 returns-in-Whole-clause-shorter g c =
     let s = whole_taken c.args.limit c.in_ok-take_part.field-0 _ _ c.parts.self.line.items c.take_part.new.line.items c.parts.self.chunk c.take_part.new.chunk c.parts.invariant.begun c.in-Whole.is c.in_ok-take_part.ensures.part in
-    λ _. omega (arith, c.parts.invariant.fewer, s.2)
-
-pub returns-in-Whole-clause-fewer : goal.returns-in-Whole-clause-fewer
-returns-in-Whole-clause-fewer g c =
-    let s = whole_taken c.args.limit c.in_ok-take_part.field-0 _ _ c.parts.self.line.items c.take_part.new.line.items c.parts.self.chunk c.take_part.new.chunk c.parts.invariant.begun c.in-Whole.is c.in_ok-take_part.ensures.part in
     omega (arith, c.parts.invariant.fewer, s.2)
 
 pub returns-in-Whole-clause-read : goal.returns-in-Whole-clause-read
@@ -25,8 +20,8 @@ returns-in-Whole-clause-read g c =
     let s = whole_taken c.args.limit c.in_ok-take_part.field-0 _ _ c.parts.self.line.items c.take_part.new.line.items c.parts.self.chunk c.take_part.new.chunk c.parts.invariant.begun c.in-Whole.is c.in_ok-take_part.ensures.part in
     (s.0, s.1)
 
-pub returns-in-TooLong-clause-fewer : goal.returns-in-TooLong-clause-fewer
-returns-in-TooLong-clause-fewer g c =
+pub returns-in-TooLong-clause-shorter : goal.returns-in-TooLong-clause-shorter
+returns-in-TooLong-clause-shorter g c =
     let s = too_long_taken c.args.limit c.in_ok-take_part.field-0 _ _ c.parts.self.line.items c.take_part.new.line.items c.parts.self.chunk c.take_part.new.chunk c.parts.invariant.begun c.in-TooLong.is c.in_ok-take_part.ensures.part in
     omega (arith, c.parts.invariant.fewer, s.2)
 
