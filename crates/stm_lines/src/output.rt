@@ -43,7 +43,7 @@ pub fn write_text<W: Write>(writer: &mut W, text: &[u8]) -> Result<(), RunFault>
 
 /// Hands on what a buffered writer holds. A flush that is interrupted is tried again, as a write is.
 pub fn flush<W: Write>(writer: &mut W) -> Result<(), RunFault>
-    ensures kept { Keeps (W.contents writer.old) (W.contents writer.new) }
+    ensures same { Keeps (W.contents writer.old) (W.contents writer.new) }
     ensures fault { IfErr result (λ e. e ≡ RunFault.Write) }
 {
     'tries: for _ in 0..u32::MAX {

@@ -27,7 +27,7 @@ use stm_store::Seed;
 /// Hands on what the writer holds, unless the next line is whole in the bytes that were read: the reader isn't called before the
 /// answers to all lines were handed on.
 fn flush_before_read<W: Write>(lines: &LineReader, writer: &mut W) -> Result<(), RunFault>
-    ensures kept { Keeps (W.contents writer.old) (W.contents writer.new) }
+    ensures same { Keeps (W.contents writer.old) (W.contents writer.new) }
     ensures fault { IfErr result (λ e. e ≢ RunFault.Read) }
 {
     if lines.is_buffered() {
