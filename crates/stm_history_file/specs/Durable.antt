@@ -1,5 +1,5 @@
 -- The file of a history: nothing before its first batch, and then exactly the text of docs/HISTORY.md.
-use Rattle.std.specs.Prelude.{◌≡◌, ◌≢◌, ◌⊎◌, ⊤, ◌≤◌, ◌<◌, ◌+◌, ◌^◌, Option, Some, None, ℕ, Bool, true, false, IsTrue, List, [], ◌∷◌, ◌++◌, length, take, drop, codes, option_copied, IfSome, Result, Ok, Err, IsErrOf}
+use Rattle.std.specs.Prelude.{◌≡◌, ◌≢◌, ◌⊎◌, ⊤, ◌≤◌, ◌<◌, ◌+◌, Option, Some, None, ℕ, Bool, true, false, IsTrue, List, [], ◌∷◌, ◌++◌, length, take, drop, codes, option_copied, IfSome, Result, Ok, Err, IsErrOf}
 use Rattle.std.specs.Borrow.{Bor}
 use Rattle.stm_terms.specs.UnlessNoMemory.{AnswersUnless}
 use Rattle.stm_store.specs.Tables.{Declared}
@@ -21,7 +21,7 @@ use Rattle.stm_journal.specs.declared.error.JournalError.{JournalError}
 use Rattle.stm_journal.specs.declared.error.JournalError.TheVariants.{Failed, NoMemory, NoSpace, Full as FullFile, TooLong, TornTooLong}
 use Rattle.stm_journal.specs.declared.replace.ReplaceError.{ReplaceError}
 use Rattle.stm_journal.specs.declared.replace.ReplaceError.TheVariants.{Refused, Unfinished}
-use Rattle.stm_journal.specs.Device.{Own}
+use Rattle.stm_journal.specs.Device.{Own, most_file, only_full}
 use Rattle.stm_journal.specs.Disk.{Disk, LeavesOnly, Shows, IsSettled, CrashLeaves, FailsOnlyIf, FailsOnlyIfAny}
 use Rattle.stm_journal.specs.FirstBatch.{IsBegun}
 use Rattle.stm_journal.specs.Journal.{AtRest, HasSameLines, LeavesSameLines, ShowsSameLines, most_batch}
@@ -197,7 +197,7 @@ abbrev pub RecordsUnless : {D : Type 0} → Disk D → HistoryFile D → History
 RecordsUnless disk old new start events result =
     let batch = batch_text old.begun start events in
     FailsOnlyIf disk old.journal.device new.journal.device (record {
-      full = 2 ^ 62 < length (disk.seen old.journal.device) + length batch;
+      full = most_file < length (disk.seen old.journal.device) + length batch;
       too_long = most_batch < length batch;
       torn_too_long = ⊥;
     }) result
@@ -273,7 +273,7 @@ BeginsAs disk old new start events (Err (Unfinished e)) = IsOldOrNew disk old ne
 abbrev pub BeginsUnless : {D T : Type 0} → Disk D → Start → List Event → Result T JournalError → Type 0
 BeginsUnless disk start events result =
     FailsOnlyIfAny disk (record {
-      full = 2 ^ 62 < length (history_text start events);
+      full = most_file < length (history_text start events);
       too_long = AreShortLines (history_text start events) → ⊥;
       torn_too_long = ⊥;
     }) result
@@ -321,14 +321,14 @@ pub record HasOpenCause (read write : Type 0) (own : Own) (e : OpenFault) : Type
 abbrev pub JudgesUnless : {D : Type 0} → Disk D → D → OpenFault → Type 0
 JudgesUnless disk d e =
     IsTrue disk.is_honest
-    → HasOpenCause (disk.reads_fail d) ⊥ (record { full = 2 ^ 62 < length (disk.seen d); too_long = ⊥; torn_too_long = ⊥ }) e
+    → HasOpenCause (disk.reads_fail d) ⊥ (only_full (most_file < length (disk.seen d))) e
 
 -- The file is opened unless the disk fails, memory runs out, the file is too long, or too much would be dropped.
 abbrev pub LoadsUnless : {D : Type 0} → Disk D → D → D → OpenFault → Type 0
 LoadsUnless disk old new e =
     let fault = disk.faults old < disk.faults new in
     IsTrue disk.is_honest → HasOpenCause (disk.reads_fail old ⊎ fault) fault (record {
-      full = 2 ^ 62 < length (disk.seen old);
+      full = most_file < length (disk.seen old);
       too_long = ⊥;
       torn_too_long = most_batch < dropped_count (disk.seen old);
     }) e

@@ -6,7 +6,7 @@ ghost use Rattle.stm_history_text.specs.HistoryText.{history_text};
 ghost use Rattle.stm_lines.specs.WrittenFronts.{WritesText};
 ghost use Rattle.stm_history.specs.Judgement.{AreShortLines};
 ghost use Rattle.stm_journal.specs.Disk.{Shows, HasLength, IsOnDisk};
-ghost use Rattle.stm_journal.specs.NewFile.{written_bytes};
+ghost use Rattle.stm_journal.specs.NewFile.{written_to};
 ghost use Rattle.stm_journal.specs.Replacing.{journal_result};
 ghost use Rattle.stm_history_file.specs.Durable.{lent_start, KeepsAny, KeepsSome, LeavesOldOrAll, LeavesAtAnyMoment, BeginsAs, BeginsUnless, FitLines, Records};
 
@@ -52,7 +52,7 @@ fn write_new<D: Device + Drop>(
     checkpoint: Option<&Checkpoint>,
     events: &[Event],
 ) -> Result<(D, usize), JournalError>
-    requires empty { IsTrue D.disk.is_honest → written_bytes D.disk file.device file.len file.pending.items ≡ Some [] }
+    requires empty { IsTrue D.disk.is_honest → written_to file ≡ Some [] }
     ensures text { IfOk result (λ r. Shows D.disk r.0 (history_text (lent_start format table.now checkpoint.entry) events.now)) }
     ensures len { IfOk result (λ r. HasLength D.disk r.0 r.1) }
     ensures durable { IfOk result (λ r. IsOnDisk D.disk r.0) }

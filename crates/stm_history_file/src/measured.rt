@@ -1,7 +1,7 @@
 //! A new file whose lines are measured as they are written.
 
 ghost use Rattle.std.specs.Prelude.{◌≡◌, ℕ, List, Some};
-ghost use Rattle.stm_journal.specs.NewFile.{written_bytes};
+ghost use Rattle.stm_journal.specs.NewFile.{written_to};
 ghost use Rattle.stm_history_file.specs.LineLengths.{last_line_after};
 
 use std::io;
@@ -33,12 +33,12 @@ pub(crate) struct MeasuredFile<D: Device> {
     pub file: NewFile<D>,
     pub line: Option<usize>,
     ghost measured: { (text : List ℕ)
-        → written_bytes D.disk file.device file.len file.pending.items ≡ Some text
+        → written_to file ≡ Some text
         → line ≡ last_line_after (Some 0) text },
 }
 
 impl<D: Device> Write for MeasuredFile<D> {
-    ghost contents = { λ f. written_bytes D.disk f.file.device f.file.len f.file.pending.items };
+    ghost contents = { λ f. written_to f.file };
 
     fn write(&mut self, buf: &[u8]) -> io::Result<usize> {
         let count = self.file.write(buf)?;

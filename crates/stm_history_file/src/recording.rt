@@ -1,7 +1,8 @@
 //! Events, recorded in a file.
 
-ghost use Rattle.std.specs.Prelude.{◌≡◌, ◌≢◌, ◌++◌, ◌+◌, ◌<◌, ◌≤◌, ◌^◌, [], true, false, IsTrue, length, take, OnOk, IfOk, IfErr};
+ghost use Rattle.std.specs.Prelude.{◌≡◌, ◌≢◌, ◌++◌, ◌+◌, ◌<◌, ◌≤◌, [], true, false, IsTrue, length, take, OnOk, IfOk, IfErr};
 ghost use Rattle.stm_events.specs.SlowDesk.{Slow};
+ghost use Rattle.stm_journal.specs.Device.{most_file, only_full};
 ghost use Rattle.stm_journal.specs.Disk.{Shows, CrashLeaves, FailsOnlyIf};
 ghost use Rattle.stm_journal.specs.Journal.{IsAtRest, MayLeave, most_batch};
 ghost use Rattle.stm_journal.specs.Text.{IsWhole};
@@ -72,11 +73,8 @@ fn add_batch<D: Device>(
         → CrashLeaves D.disk journal.old.device journal.new.device (IsBegunOrWhole batch.now) }
     ensures begun_left { begun ≡ false → journal.old.sync ≢ SyncMode.Never → IsTrue D.disk.is_honest
         → IsBegunOrWhole batch.now (D.disk.seen journal.new.device) }
-    ensures fault { FailsOnlyIf D.disk journal.old.device journal.new.device (record {
-      full = 2 ^ 62 < length (D.disk.seen journal.old.device) + length batch.now;
-      too_long = ⊥;
-      torn_too_long = ⊥;
-    }) result }
+    ensures fault { FailsOnlyIf D.disk journal.old.device journal.new.device
+        (only_full (most_file < length (D.disk.seen journal.old.device) + length batch.now)) result }
 {
     if begun {
         return journal.append(batch);

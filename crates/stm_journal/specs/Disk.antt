@@ -109,18 +109,12 @@ CrashChanges disk step old new = IsTrue disk.is_honest → ComesFrom step (disk.
 abbrev pub CrashAddsNothing : {D : Type 0} → Disk D → D → D → Type 0
 CrashAddsNothing disk old new = IsTrue disk.is_honest → (c : List ℕ) → disk.may_leave new c → disk.may_leave old c
 
--- of bytes that were appended to a file on the disk a crash leaves some, or zeros in their place, if the device fills with zeros
-abbrev pub FillsWithZeros : {D : Type 0} → Disk D → D → D → ℕ → List ℕ → Type 0
-FillsWithZeros disk old new at bytes =
-    IsTrue disk.is_honest → IsTrue disk.fills_with_zeros → at ≡ length (disk.seen old) → Only (disk.seen old) (disk.may_leave old)
-    → (c : List ℕ) → disk.may_leave new c → TornAppend bytes (disk.seen old) c
-
--- Of such bytes a crash leaves some, or zeros in their place, on each device, if they are in the sector in which the file ends: after the end
--- of a file the rest of its last sector is zeros.
-abbrev pub FillsSector : {D : Type 0} → Disk D → D → D → ℕ → List ℕ → Type 0
-FillsSector disk old new at bytes =
-    IsTrue disk.is_honest → IsInLastSector at (length bytes) → at ≡ length (disk.seen old) → Only (disk.seen old) (disk.may_leave old)
-    → (c : List ℕ) → disk.may_leave new c → TornAppend bytes (disk.seen old) c
+-- Of bytes that were appended to a file on the disk a crash leaves some, or zeros in their place, if the device fills with zeros; and on each
+-- device, if they are in the sector in which the file ends: after the end of a file the rest of its last sector is zeros.
+abbrev pub AppendsOrZeros : {D : Type 0} → Disk D → D → D → ℕ → List ℕ → Type 0
+AppendsOrZeros disk old new at bytes =
+    IsTrue disk.is_honest → IsTrue disk.fills_with_zeros ⊎ IsInLastSector at (length bytes) → at ≡ length (disk.seen old)
+    → Only (disk.seen old) (disk.may_leave old) → (c : List ℕ) → disk.may_leave new c → TornAppend bytes (disk.seen old) c
 
 -- time goes on, and meanwhile a crash leaves these files
 abbrev pub TakesTime : {D : Type 0} → Disk D → (List ℕ → Type 0) → D → D → Type 0

@@ -1,9 +1,9 @@
 -- A file that takes the place of another: what a call that puts it there leaves, by its result.
 use Rattle.std.specs.Prelude.{◌≡◌, ◌⊎◌, ⊤, List, [], ℕ, IsTrue, Some, None, Result, Ok, Err}
 use Rattle.stm_journal.specs.Device.{Elapses}
-use Rattle.stm_journal.specs.Disk.{Disk, OnDisk, Shows, IsOneOf, CrashLeaves}
+use Rattle.stm_journal.specs.Disk.{Disk, OnDisk, Shows, IsSettled, IsOneOf, CrashLeaves}
 use Rattle.stm_journal.specs.Journal.{IsAtRest}
-use Rattle.stm_journal.specs.NewFile.{written_bytes}
+use Rattle.stm_journal.specs.NewFile.{written_to}
 use Rattle.stm_journal.specs.declared.device.Device.{Ghosts}
 use Rattle.stm_journal.specs.declared.error.JournalError.{JournalError}
 use Rattle.stm_journal.specs.declared.journal.Journal.{Journal}
@@ -35,6 +35,14 @@ pub record IsAsBefore {D : Type 0} (disk : Disk D) (old new : D) : Type 0 where
   -- a crash in the call left nothing else either
   pub time : ElapsesIn disk old new (λ c. ⊥)
 
+abbrev pub StaysAsBefore : {D : Type 0} → Disk D → D → D → Type 0
+StaysAsBefore disk old new = IsTrue disk.is_honest → IsAsBefore disk old new
+
+-- A new file: it has no bytes, and no sync of it has failed.
+pub record IsEmptyFile {D : Type 0} (disk : Disk D) (file : D) : Type 0 where
+  pub empty : Shows disk file []
+  pub settled : IsSettled disk file
+
 -- It is the old file or the other one.
 pub record IsOldOrOther {D : Type 0} (disk : Disk D) (old other new : D) : Type 0 where
   -- reads return the one or the other
@@ -57,6 +65,10 @@ LeavesByResult disk old other new (Err (Unfinished e)) = IsOldOrOther disk old o
 
 abbrev pub PutsOrKeeps : {D T : Type 0} → Disk D → D → D → D → Result T ReplaceError → Type 0
 PutsOrKeeps disk old other new result = IsTrue disk.is_honest → LeavesByResult disk old other new result
+
+-- what a crash leaves while another file takes the place of an old one: what it might have left before, or all of the other file
+abbrev pub MayBeOther : {D : Type 0} → Disk D → D → D → List ℕ → Type 0
+MayBeOther disk old other c = disk.may_leave old c ⊎ (c ≡ disk.seen other)
 
 -- ---- a journal whose file another one replaces
 
@@ -85,7 +97,7 @@ ReplacesAs disk old other new (Err (Unfinished e)) = IsOneOf disk old.device oth
 
 -- A new file has no bytes yet, and no write of it has failed.
 pub record IsNewFile {D : Type 0} {device : Ghosts D} (file : NewFile D device) : Type 0 where
-  pub empty : IsTrue device.disk.is_honest → written_bytes device.disk file.device file.len file.pending.items ≡ Some []
+  pub empty : IsTrue device.disk.is_honest → written_to file ≡ Some []
   pub fault : file.fault ≡ None
 
 -- ---- errors

@@ -4,16 +4,15 @@
 //! one byte more, and then the others, each synced before the next. So a crash leaves a file that begins as the batch does, or that is
 //! shorter than the front, and no other file can be taken for one of these.
 
-ghost use Rattle.std.specs.Prelude.{◌≡◌, ◌≢◌, ◌≤◌, [], IsTrue, length, take, OnOk};
-ghost use Rattle.stm_journal.specs.FirstBatch.{LeavesFirst};
+ghost use Rattle.std.specs.Prelude.{◌≡◌, ◌≤◌, [], length, take, OnOk};
+ghost use Rattle.stm_journal.specs.FirstBatch.{LeavesFirst, MayPutFirst, ShowsFirst};
 ghost use Rattle.stm_journal.specs.Disk.{Shows, IsOnDisk, CrashLeaves, FailsOnlyByDisk};
-ghost use Rattle.stm_journal.specs.Journal.{IsAtRest, most_batch};
+ghost use Rattle.stm_journal.specs.Journal.{IsAtRest};
 ghost use Rattle.stm_journal.specs.Text.{IsWhole};
 
 use crate::device::Device;
 use crate::error::JournalError;
 use crate::journal::{Journal, put};
-use crate::sync_mode::SyncMode;
 
 impl<D: Device> Journal<D> {
     /// Adds the first batch to an empty file, so that a crash leaves all of it or nothing, and a file that is known from others by the
@@ -21,20 +20,14 @@ impl<D: Device> Journal<D> {
     ///
     /// After an error nothing more can be added: open the file again.
     pub fn append_first(&mut self, batch: &[u8], front: usize) -> Result<(), JournalError>
-        requires at_rest { IsAtRest D.disk self.old }
-        requires empty { Shows D.disk self.old.device [] }
-        requires syncs { self.old.sync ≢ SyncMode.Never }
-        requires lines { IsWhole batch.now }
-        requires room { length batch.now ≤ most_batch }
-        requires some { 2 ≤ front }
-        requires within { front ≤ length batch.now }
-        ensures added { OnOk result (Shows D.disk self.new.device batch.now) }
+        requires { MayPutFirst D.disk self.old batch.now front }
+        ensures done { OnOk result (Shows D.disk self.new.device batch.now) }
         ensures at_rest { OnOk result (IsAtRest D.disk self.new) }
         ensures sync { self.new.sync ≡ self.old.sync }
         // A crash at any moment of the call leaves all of the batch or nothing, and a file that is begun, or whole but for one byte.
         ensures any_moment { CrashLeaves D.disk self.old.device self.new.device (LeavesFirst (take front batch.now) batch.now) }
         // After an error the file is also one of these.
-        ensures left { IsTrue D.disk.is_honest → LeavesFirst (take front batch.now) batch.now (D.disk.seen self.new.device) }
+        ensures left { ShowsFirst D.disk self.new.device (take front batch.now) batch.now }
         ensures fault { FailsOnlyByDisk D.disk self.old.device self.new.device result }
     {
         put_first(&mut self.device, batch, front)?;

@@ -1,10 +1,10 @@
 //! A new file, written from the front on.
 
-ghost use Rattle.std.specs.Prelude.{◌≡◌, ◌≢◌, ◌≤◌, ◌<◌, ◌+◌, ◌^◌, [], IsTrue, length, Option, Some, None, IfOk, IfErr, IfSome, OnOk, OnErr, IsErrOf};
+ghost use Rattle.std.specs.Prelude.{◌≡◌, ◌≢◌, ◌≤◌, ◌<◌, ◌+◌, [], IsTrue, length, Option, Some, None, IfOk, IfErr, IfSome, OnOk, OnErr, IsErrOf};
 ghost use Rattle.std.specs.Io.{WritesAtMost};
 ghost use Rattle.std.specs.Io.KnownBytes.{Keeps, WriteAppends};
+ghost use Rattle.stm_journal.specs.Device.{most_file, only_full};
 ghost use Rattle.stm_journal.specs.Disk.{Shows, Reaches, IsSettled, MayFail, FailsOnlyIfAny};
-ghost use Rattle.stm_journal.specs.NewFile.{written_bytes, IsFinished};
 ghost use Rattle.stm_journal.specs.declared.error.JournalError.TheVariants.{Failed, NoSpace, Full, TooLong, TornTooLong};
 
 use crate::device::Device;
@@ -28,23 +28,25 @@ pub struct NewFile<D: Device> {
     ghost settled: { IsSettled D.disk device },
     ghost within: { Reaches D.disk device len },
     ghost counts: { IsTrue D.disk.is_honest → fault ≡ None → len ≡ length (D.disk.seen device) },
-    ghost small: { len ≤ 2 ^ 62 },
+    ghost small: { len ≤ most_file },
     ghost piece: { length pending.items ≤ 65536 },
     ghost failed: { IsTrue D.disk.is_honest → fault ≡ Some Failed → MayFail D.disk },
     ghost no_space: { IsTrue D.disk.is_honest → fault ≡ Some NoSpace → MayFail D.disk },
-    ghost full: { IsTrue D.disk.is_honest → fault ≡ Some Full → 2 ^ 62 < len + length pending.items },
+    ghost full: { IsTrue D.disk.is_honest → fault ≡ Some Full → most_file < len + length pending.items },
     ghost not_long: { IsTrue D.disk.is_honest → fault ≢ Some TooLong },
     ghost not_torn: { IsTrue D.disk.is_honest → fault ≢ Some TornTooLong },
 }
 
 impl<D: Device> NewFile<D> {
+    ghost use Rattle.stm_journal.specs.NewFile.{written_to, length_so_far, IsFinished};
+
     /// A file with no bytes yet.
     pub(crate) fn new(alloc: Global, device: D) -> Result<Self, AllocError>
     where
         D: Drop,
         requires empty { Shows D.disk device [] }
         requires settled { IsSettled D.disk device }
-        ensures empty { IfOk result (λ file. IsTrue D.disk.is_honest → written_bytes D.disk file.device file.len file.pending.items ≡ Some []) }
+        ensures empty { IfOk result (λ file. IsTrue D.disk.is_honest → written_to file ≡ Some []) }
         ensures fault { IfOk result (λ file. file.fault ≡ None) }
     {
         Ok(NewFile {
@@ -65,8 +67,7 @@ impl<D: Device> NewFile<D> {
     /// Writes what is pending to the device.
     #[tactic(auto, using(crate::proofs::Faults::may_fail))]
     fn write_out(&mut self) -> Result<(), JournalError>
-        ensures kept { Keeps (written_bytes D.disk self.old.device self.old.len self.old.pending.items)
-            (written_bytes D.disk self.new.device self.new.len self.new.pending.items) }
+        ensures kept { Keeps (written_to self.old) (written_to self.new) }
         ensures none_left { OnOk result (self.new.pending.items ≡ []) }
         ensures fine { OnOk result (self.new.fault ≡ None) }
         ensures unchanged { OnErr result ((self.new.len ≡ self.old.len) × (self.new.pending.items ≡ self.old.pending.items)) }
@@ -96,9 +97,7 @@ impl<D: Device> NewFile<D> {
     /// Takes some of these bytes, at least one if there are any, and returns how many.
     fn add(&mut self, bytes: &[u8]) -> Result<usize, JournalError>
         ensures bound { WritesAtMost result bytes.now }
-        ensures bytes { WriteAppends
-            (written_bytes D.disk self.old.device self.old.len self.old.pending.items)
-            (written_bytes D.disk self.new.device self.new.len self.new.pending.items) result bytes.now }
+        ensures bytes { WriteAppends (written_to self.old) (written_to self.new) result bytes.now }
         ensures fault { IfErr result (λ e. self.new.fault ≡ Some e) }
     {
         if let Some(fault) = self.fault {
@@ -122,15 +121,10 @@ impl<D: Device> NewFile<D> {
     pub fn finish(mut self) -> Result<(D, usize), JournalError>
     where
         D: Drop,
-        ensures finished { IfOk result (λ r. IsFinished D.disk
-            (written_bytes D.disk self.device self.len self.pending.items) r.0 r.1) }
+        ensures done { IfOk result (λ r. IsFinished D.disk (written_to self) r.0 r.1) }
         // The first error of a write is kept for this call.
         ensures first { IfSome self.fault (λ e. IsErrOf result e) }
-        ensures fault { FailsOnlyIfAny D.disk (record {
-          full = 2 ^ 62 < self.len + length self.pending.items;
-          too_long = ⊥;
-          torn_too_long = ⊥;
-        }) result }
+        ensures fault { FailsOnlyIfAny D.disk (only_full (most_file < length_so_far self)) result }
     {
         self.write_out()?;
         self.device.sync()?;
@@ -139,7 +133,9 @@ impl<D: Device> NewFile<D> {
 }
 
 impl<D: Device> Write for NewFile<D> {
-    ghost contents = { λ f. written_bytes D.disk f.device f.len f.pending.items };
+    ghost use Rattle.stm_journal.specs.NewFile.{written_to};
+
+    ghost contents = { λ f. written_to f };
 
     fn write(&mut self, buf: &[u8]) -> io::Result<usize> {
         match self.add(buf) {

@@ -1,8 +1,8 @@
 //! A file that takes the place of another.
 
-ghost use Rattle.std.specs.Prelude.{◌≡◌, [], IsTrue, IfOk};
-ghost use Rattle.stm_journal.specs.Disk.{Shows, IsOnDisk, IsSettled, StaysSettled, CrashAddsNothing, TakesTime, FailsOnlyByDisk};
-ghost use Rattle.stm_journal.specs.Replacing.{PutsOrKeeps, journal_result};
+ghost use Rattle.std.specs.Prelude.{◌≡◌, IsTrue, IfOk};
+ghost use Rattle.stm_journal.specs.Disk.{IsOnDisk, FailsOnlyByDisk};
+ghost use Rattle.stm_journal.specs.Replacing.{IsEmptyFile, StaysAsBefore, PutsOrKeeps, journal_result};
 
 use crate::device::Device;
 use crate::error::JournalError;
@@ -27,12 +27,11 @@ pub trait Replace: Device {
     fn beside(&mut self) -> Result<Self, JournalError>
     where
         Self: Sized,
-        ensures empty { IfOk result (λ file. Shows Self.disk file []) }
-        ensures settled { IfOk result (λ file. IsSettled Self.disk file) }
-        ensures seen { Shows Self.disk self.new (Self.disk.seen self.old) }
-        ensures stays { StaysSettled Self.disk self.old self.new }
-        ensures crash { CrashAddsNothing Self.disk self.old self.new }
-        ensures time { TakesTime Self.disk (Self.disk.may_leave self.new) self.old self.new }
+        // The new file has no bytes yet.
+        ensures made { IfOk result (IsEmptyFile Self.disk) }
+        // Whatever the result, this one is as it was.
+        ensures same { StaysAsBefore Self.disk self.old self.new }
+        // It fails only if the disk fails, or if memory runs out.
         ensures fault { FailsOnlyByDisk Self.disk self.old self.new result };
 
     /// Puts another file, which is on the disk, in the place of this one.

@@ -1,4 +1,4 @@
-use Rattle.std.proofs.Common.{length}
+use Rattle.std.proofs.Common.{inl, length}
 use Rattle.stm_journal.specs.Device.{Torn, TornAppend}
 use Rattle.stm_journal.proofs.Crash.{torn_none, append_none}
 use Rattle.stm_journal.proofs.Runs.{one_call, two_calls, torn_outcomes}
@@ -21,7 +21,7 @@ returns-in_err-write_at-clause-zeros g c zeros at_end honest =
     let only = (c.requires.durable honest).only in
     let bytes = c.args.bytes.now in
     one_call D old only (g.met.D.Device.lawful.only_now old) (TornAppend bytes (D.seen old)) c.write_at.new.self (append_none bytes (D.seen old))
-    (c.write_at.ensures.zeros honest zeros (at_end honest) only) (c.write_at.ensures.time honest)
+    (c.write_at.ensures.zeros honest (inl zeros) (at_end honest) only) (c.write_at.ensures.time honest)
 
 pub returns-in_err-sync-clause-any_moment : goal.returns-in_err-sync-clause-any_moment
 returns-in_err-sync-clause-any_moment g c honest =
@@ -41,7 +41,7 @@ returns-in_err-sync-clause-zeros g c zeros at_end honest =
     let only = (c.requires.durable honest).only in
     let bytes = c.args.bytes.now in
     two_calls D old only (g.met.D.Device.lawful.only_now old) (TornAppend bytes (D.seen old)) c.write_at.new.self c.sync.new.self
-    (append_none bytes (D.seen old)) (c.write_at.ensures.zeros honest zeros (at_end honest) only) (c.write_at.ensures.time honest)
+    (append_none bytes (D.seen old)) (c.write_at.ensures.zeros honest (inl zeros) (at_end honest) only) (c.write_at.ensures.time honest)
     (c.sync.ensures.crash honest) (c.sync.ensures.time honest)
 
 pub returns-clause-any_moment : goal.returns-clause-any_moment
@@ -62,5 +62,5 @@ returns-clause-zeros g c zeros at_end honest =
     let only = (c.requires.durable honest).only in
     let bytes = c.args.bytes.now in
     two_calls D old only (g.met.D.Device.lawful.only_now old) (TornAppend bytes (D.seen old)) c.write_at.new.self c.sync.new.self
-    (append_none bytes (D.seen old)) (c.write_at.ensures.zeros honest zeros (at_end honest) only) (c.write_at.ensures.time honest)
+    (append_none bytes (D.seen old)) (c.write_at.ensures.zeros honest (inl zeros) (at_end honest) only) (c.write_at.ensures.time honest)
     (c.sync.ensures.crash honest) (c.sync.ensures.time honest)

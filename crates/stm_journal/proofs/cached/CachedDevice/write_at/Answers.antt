@@ -13,24 +13,24 @@ returns-clause-crash c honest =
     write_leaves p c.replace.new.content c.args.at c.args.bytes.now (c.requires honest) (ap (λ (k : Content). k.disk.items) is ∙ disk)
     (ap (λ (k : Content). k.cache.items) is ∙ cache)
 
-pub returns-in_err-to_vec-clause-sector : goal.returns-in_err-to_vec-clause-sector
-returns-in_err-to_vec-clause-sector c honest fits at_end only file left =
+pub returns-in_err-to_vec-clause-zeros : goal.returns-in_err-to_vec-clause-zeros
+returns-in_err-to_vec-clause-zeros c honest either at_end only file left =
     let p = c.args.self.now.content in
     unwritten_leaves p p c.args.bytes.now only refl refl file left
 
-pub returns-in_err-rewritten-clause-sector : goal.returns-in_err-rewritten-clause-sector
-returns-in_err-rewritten-clause-sector c honest fits at_end only file left =
+pub returns-in_err-rewritten-clause-zeros : goal.returns-in_err-rewritten-clause-zeros
+returns-in_err-rewritten-clause-zeros c honest either at_end only file left =
     let p = c.args.self.now.content in
     unwritten_leaves p p c.args.bytes.now only refl refl file left
 
-pub returns-in_err-replace-clause-sector : goal.returns-in_err-replace-clause-sector
-returns-in_err-replace-clause-sector c honest fits at_end only file left =
+pub returns-in_err-replace-clause-zeros : goal.returns-in_err-replace-clause-zeros
+returns-in_err-replace-clause-zeros c honest either at_end only file left =
     let is = c.in_err-replace.ensures.err in
     unwritten_leaves c.args.self.now.content c.replace.new.content c.args.bytes.now only (ap (λ (k : Content). k.disk.items) is)
     (ap (λ (k : Content). k.cache.items) is) file left
 
-pub returns-clause-sector : goal.returns-clause-sector
-returns-clause-sector c honest fits at_end only file left =
+pub returns-clause-zeros : goal.returns-clause-zeros
+returns-clause-zeros c honest either at_end only file left =
     let p = c.args.self.now.content in
     let is = c.in_ok-replace.ensures.ok in
     let disk : c.in_ok-to_vec.field-0.items ≡ p.disk.items = search rules in
