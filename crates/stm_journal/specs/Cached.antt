@@ -8,6 +8,14 @@ use Rattle.stm_journal.specs.declared.cached.Content.{Content}
 abbrev pub bytes_on_disk : Cached → List ℕ
 bytes_on_disk d = d.content.disk.items
 
+-- A new file: these bytes are on the disk and in the cache, and one sync is to fail after this many.
+pub record IsNewCached (bytes : List ℕ) (syncs : ℕ) (d : Cached) : Type 0 where
+  pub disk : d.content.disk.items ≡ bytes
+  pub cache : d.content.cache.items ≡ bytes
+  pub settled : d.is_settled ≡ true
+  pub left : d.syncs ≡ syncs
+  pub failed : d.failed ≡ 0
+
 -- what the disk has, or what the cache has
 abbrev pub IsEither : Content → List ℕ → Type 0
 IsEither p c = (c ≡ p.disk.items) ⊎ (c ≡ p.cache.items)

@@ -3,7 +3,7 @@
 //! It shows that what `Device` says of a sync that fails can be met, and is what systems do: the cache keeps what didn't come to the
 //! disk, reads go on returning it, and no later sync writes it.
 
-ghost use Rattle.std.specs.Prelude.{◌≡◌, ◌∷◌, ◌++◌, [], OnOk, OnErr};
+ghost use Rattle.std.specs.Prelude.{◌≡◌, ◌∷◌, ◌++◌, [], IfOk, OnOk, OnErr};
 
 use crate::device::Device;
 use crate::error::JournalError;
@@ -30,10 +30,12 @@ pub struct Cached {
 }
 
 impl Cached {
-    ghost use Rattle.stm_journal.specs.Cached.{bytes_on_disk};
+    ghost use Rattle.stm_journal.specs.Cached.{bytes_on_disk, IsNewCached};
 
     /// A file with these bytes, all of them on the disk, of which one sync fails after this many.
-    pub fn new(alloc: Global, bytes: &[u8], syncs: usize) -> Result<Self, AllocError> {
+    pub fn new(alloc: Global, bytes: &[u8], syncs: usize) -> Result<Self, AllocError>
+        ensures done { IfOk result (IsNewCached bytes.now syncs) }
+    {
         Ok(Cached {
             alloc,
             content: Content {
