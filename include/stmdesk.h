@@ -56,8 +56,8 @@ extern "C" {
 ** The version of the library that this header belongs to: as a text, and as the number 1000000 * major + 1000 * minor + patch, which #if can
 ** compare. stmdesk_version has that of the library that runs.
 */
-#define STMDESK_VERSION "0.29.0"
-#define STMDESK_VERSION_NUMBER 29000
+#define STMDESK_VERSION "0.30.0"
+#define STMDESK_VERSION_NUMBER 30000
 
 /*
 ** Sets *version to the version of the library, a text that a byte 0 ends, as STMDESK_VERSION is. It is never freed and never changes. The

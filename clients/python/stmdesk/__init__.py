@@ -54,7 +54,7 @@ from ._values import (
     Submission, Throws, Value, Verdict, Waiting, Waits,
 )  # fmt: skip
 
-__version__ = "0.29.0"
+__version__ = "0.30.0"
 
 __all__ = [
     "Answer", "BadAnswer", "Batch", "Blocks", "Cancellation", "Cancelled", "Cell", "Change", "Checked", "ClientAt", "ClientState", "Commits",

@@ -8,7 +8,7 @@ use stm_lines::RunFault;
 use stm_terms::NoMemory;
 
 /// The version, which `--version` prints. The header, the library and the Python client state it, too; tests compare.
-pub const VERSION: &str = "0.29.0";
+pub const VERSION: &str = "0.30.0";
 
 /// Appends the line that `--version` prints.
 fn write_version(out: &mut String) -> Result<(), NoMemory>

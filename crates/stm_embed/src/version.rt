@@ -10,5 +10,5 @@ pub struct VersionText {
 
 /// The version that `stm_command_line` states: the contract of `stmdesk_version` says that they are the same.
 pub static VERSION_TEXT: VersionText = VersionText {
-    bytes: *b"0.29.0\0",
+    bytes: *b"0.30.0\0",
 };
