@@ -1,11 +1,11 @@
 -- The check as the code walks it: with what it looks up in one place, and noting variables as it goes.
-use Rattle.std.specs.Prelude.{◌≡◌, ℕ, ◌+◌, ◌≤◌, ◌^◌, List, Option, Some, Result, length, IfOk, IfSome}
+use Rattle.std.specs.Prelude.{◌≡◌, ℕ, ◌+◌, ◌≤◌, ◌^◌, List, Option, Result, length, IfOk, IfSome}
 use Rattle.std.specs.Str.{IsAscii}
 use Rattle.stm_terms.specs.declared.kinds.Ty.{Ty}
 use Rattle.stm_terms.specs.Ast.{Term, Act}
 use Rattle.stm_terms.specs.Limits.{most_refs}
 use Rattle.stm_terms.specs.ParsedAst as raw
-use Rattle.stm_terms.specs.Typing.{ActionType, result_type, named_in, named, kinds_in, record_use_as, record_uses}
+use Rattle.stm_terms.specs.Typing.{ActionType, result_type, named_in, named, record_uses}
 use Rattle.stm_terms.specs.UnlessNoMemory.{AnswersUnless}
 use Rattle.stm_check.specs.declared.fault.TypeFault.{TypeFault}
 use Rattle.stm_check.specs.declared.fault.TypeFault.TheVariants.{NoMemory}
@@ -13,10 +13,6 @@ use Rattle.stm_check.specs.declared.checker.Checker.{Checker}
 use Rattle.stm_check.specs.Scopes.{scope, ScopeHasFewRefs, ScopeIsConsistent}
 use Rattle.stm_check.specs.CheckFunction.{checked_expr, checked}
 use Rattle.stm_store.specs.Naming.{known_kinds}
-
--- the variables that were named, with one more at the end, unless it is one of them
-abbrev pub with_use : ℕ → Ty → List (ℕ × Ty) → List (ℕ × Ty)
-with_use i t us = record_use_as (kinds_in us i) (Some t) i us
 
 -- the names of an expression can be looked up
 abbrev pub CanLookUp : Checker → raw.RawTerm → Type 0

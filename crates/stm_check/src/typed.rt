@@ -1,8 +1,8 @@
 //! Blocks that are well typed.
 
-ghost use Rattle.std.specs.Prelude.{◌≡◌, ◌≤◌, ◌^◌, ◌↔◌, [], Some, IfOk, IsTrue, string_bytes};
+ghost use Rattle.std.specs.Prelude.{◌≡◌, ◌↔◌, IfOk, IsTrue, string_bytes};
 ghost use Rattle.stm_terms.specs.Ast.{act_of};
-ghost use Rattle.stm_terms.specs.Typing.{action_type, result_type as type_of_result, kinds_in, makes};
+ghost use Rattle.stm_check.specs.TypedBlock.{IsTyped};
 
 use std::alloc::Global;
 use std::marker::Model;
@@ -46,12 +46,11 @@ pub struct Typed {
 }
 
 impl Model for Typed {
-    ghost use Rattle.std.specs.Prelude.{◌≡◌, ◌≤◌, ◌^◌, [], Some, string_bytes};
+    ghost use Rattle.std.specs.Prelude.{string_bytes};
     ghost use Rattle.std.specs.Coded.{codes};
     ghost use Rattle.stm_terms.specs.TreeEncoding.{act_code};
     ghost use Rattle.stm_terms.specs.Ast.{act_of};
-    ghost use Rattle.stm_terms.specs.Typing.{action_type, kinds_in, makes, result_type as type_of_result};
-    ghost use Rattle.stm_check.specs.TypedBlock.{Block};
+    ghost use Rattle.stm_check.specs.TypedBlock.{Block, IsTyped};
 
     ghost Value = { Block };
 
@@ -64,9 +63,12 @@ impl Model for Typed {
       uses = b.uses.items;
     } };
 
-    ghost invariant = { λ b. (action_type (kinds_in b.uses.items) [] (act_of b.action)
-        ≡ Some (type_of_result b.result_type))
-        × (makes (act_of b.action) ≤ 2 ^ 32) };
+    ghost invariant = { λ b. IsTyped (record {
+      tree = act_of b.action;
+      text = string_bytes b.text;
+      result_type = b.result_type;
+      uses = b.uses.items;
+    }) };
 }
 
 impl Typed {
@@ -77,9 +79,12 @@ impl Typed {
         result_type: Option<Ty>,
         uses: Vec<(u32, Ty)>,
     ) -> Typed
-        requires typed { action_type (kinds_in uses.items) [] (act_of action)
-            ≡ Some (type_of_result result_type) }
-        requires few { makes (act_of action) ≤ 2 ^ 32 }
+        requires { IsTyped (record {
+          tree = act_of action;
+          text = string_bytes text;
+          result_type = result_type;
+          uses = uses.items;
+        }) }
         ensures { result ≡ record {
           tree = act_of action;
           text = string_bytes text;
@@ -95,12 +100,10 @@ impl Typed {
         }
     }
 
-    /// What the block does. The clauses `typed` and `few` hold of every block.
+    /// What the block does. The clause `typed` holds of every block.
     pub fn action(&self) -> &Action
         ensures action { act_of result.now ≡ self.now.tree }
-        ensures typed { action_type (kinds_in self.now.uses) [] self.now.tree
-            ≡ Some (type_of_result self.now.result_type) }
-        ensures few { makes self.now.tree ≤ 2 ^ 32 }
+        ensures typed { IsTyped self.now }
     {
         &self.action
     }

@@ -23,6 +23,7 @@ pub const UNIT: Ty = Ty {
     refs: 0,
 };
 
+/// Whether two types are equal.
 pub fn same(t: Ty, u: Ty) -> bool
     ensures { result ≡ same_ty t u }
 {

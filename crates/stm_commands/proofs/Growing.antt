@@ -34,7 +34,7 @@ use Rattle.stm_desk.specs.declared.errors.SettleWhy.{SettleWhy}
 use Rattle.stm_desk.specs.declared.errors.SettleWhy.TheVariants.{HistoryFull, CellsFull, NoMemory}
 use Rattle.stm_desk.specs.declared.finish.Finish.{Finish}
 use Rattle.stm_desk.specs.declared.settle.Settled.{Settled}
-use Rattle.stm_desk.specs.Events.{finish_of}
+use Rattle.stm_desk.specs.Events.{finish_of, HasFinishedBlock}
 use Rattle.stm_desk.specs.RunAtOnce.{HasRunAtOnce}
 use Rattle.stm_desk.specs.Settling.{with_whats, requeued_all, slow_run, HasHalted, RunsAs}
 use Rattle.stm_events.specs.SlowSettle.{Order}
@@ -274,12 +274,12 @@ pub kept_labelled : {known : List Named} → (d e : DeskView) (copy : Option (Li
     → MayStart e.table e.checkpoint → IsLegalFrom (start_state e) e.history → OpenInvariant d copy ks known → OpenInvariant e copy ks known
 kept_labelled d e copy ks t label r p q start legal k = let g = labelled_grown d e t label r p q start legal in kept_grown d e copy ks g.0 g.1 k
 
-finished_grown : (d e : DeskView) (t : ℕ) (r : Result Finish FinishError) → IfOk r (λ f. e ≡ with_event d 0 (finish_of t f)) → OnErr r (e ≡ d) → MayStart e.table e.checkpoint → IsLegalFrom (start_state e) e.history → HasGrown d e
-finished_grown d e t (Ok f) p q start legal = grown_next d e 0 (finish_of t f) p start legal
+finished_grown : (d e : DeskView) (t : ℕ) (r : Result Finish FinishError) → IfOk r (HasFinishedBlock 0 t d e) → OnErr r (e ≡ d) → MayStart e.table e.checkpoint → IsLegalFrom (start_state e) e.history → HasGrown d e
+finished_grown d e t (Ok f) p q start legal = grown_next d e 0 (finish_of t f) p.grown start legal
 finished_grown d e t (Err x) p q start legal = grown_same d e q start legal
 
 pub kept_finished : {known : List Named} → (d e : DeskView) (copy : Option (List (Ty × Value))) (ks : List KeptJob) (t : ℕ) (r : Result Finish FinishError)
-    → IfOk r (λ f. e ≡ with_event d 0 (finish_of t f)) → OnErr r (e ≡ d) → MayStart e.table e.checkpoint → IsLegalFrom (start_state e) e.history → OpenInvariant d copy ks known → OpenInvariant e None ks known
+    → IfOk r (HasFinishedBlock 0 t d e) → OnErr r (e ≡ d) → MayStart e.table e.checkpoint → IsLegalFrom (start_state e) e.history → OpenInvariant d copy ks known → OpenInvariant e None ks known
 kept_finished d e copy ks t r p q start legal k = kept_without d e copy ks (finished_grown d e t r p q start legal) k
 
 declared_grown : (d e : DeskView) (w : What) (r : Result ℕ LateDeclareError) → OnOk r (e ≡ with_event d 0 w) → OnErr r (e ≡ d) → MayStart e.table e.checkpoint → IsLegalFrom (start_state e) e.history → HasGrown d e

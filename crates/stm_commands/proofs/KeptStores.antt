@@ -1,5 +1,5 @@
 -- A job has its store as long as its ticket waits.
-use Rattle.std.proofs.Common.{◌≡◌, ℕ, zero, suc, ◌<◌, false, List, [], ◌∷◌, ◌++◌, map, Option, Some, None, length, refl, sym, ap, ◌∙◌, arith, slice_index_or, slice_set}
+use Rattle.std.proofs.Common.{◌≡◌, ℕ, zero, suc, ◌<◌, false, List, [], ◌∷◌, ◌++◌, map, Option, Some, None, length, refl, sym, ap, subst, ◌∙◌, arith, slice_index_or, slice_set}
 use Rattle.std.specs.Prelude.{option_map, is_some, slice_get, IfSome}
 use Rattle.stm_terms.specs.declared.kinds.Ty.{Ty}
 use Rattle.stm_terms.specs.declared.values.Value.{Value}
@@ -67,18 +67,26 @@ kept_next f ks ls k j js rest all p q e h =
     ap (λ (xs : List KeptJob). map job_kept xs ++ map f rest) p ∙ kept_pushed ks k (map f rest) ∙ ap (λ (x : HandedOut). map job_kept ks ++ x ∷ map f rest) e ∙ ap (λ (xs : List Job). map job_kept ks ++ map f xs) (sym q) ∙ h
 
 -- ---- the job at a place
-pub kept_get : (ks : List KeptJob) (n : ℕ) → option_map job_kept (slice_get ks n) ≡ slice_get (map job_kept ks) n
+kept_get : (ks : List KeptJob) (n : ℕ) → option_map job_kept (slice_get ks n) ≡ slice_get (map job_kept ks) n
 kept_get [] n = refl
 kept_get (k ∷ ks) zero = refl
 kept_get (k ∷ ks) (suc n) = kept_get ks n
 
-pub kept_at : (ks : List KeptJob) (n m : ℕ) (o : Option KeptJob) → n ≡ suc m → o ≡ slice_get ks m → option_map job_kept o ≡ job_at n (map job_kept ks)
-kept_at ks n m o e p = ap (λ (x : Option KeptJob). option_map job_kept x) p ∙ kept_get ks m ∙ ap (λ (x : ℕ). job_at x (map job_kept ks)) (sym e)
+pub kept_at : (ks : List KeptJob) (n : ℕ) (o : Option KeptJob) → o ≡ job_at n ks → option_map job_kept o ≡ job_at n (map job_kept ks)
+kept_at ks zero o e = ap (λ (x : Option KeptJob). option_map job_kept x) e
+kept_at ks (suc n) o e = ap (λ (x : Option KeptJob). option_map job_kept x) e ∙ kept_get ks n
 
-pub stored_get : (ws : List Waiter) (ks : List KeptJob) (n : ℕ) → HaveStores ws ks → IfSome (slice_get ks n) (λ k. HasStore ws k)
+stored_get : (ws : List Waiter) (ks : List KeptJob) (n : ℕ) → HaveStores ws ks → IfSome (slice_get ks n) (λ k. HasStore ws k)
 stored_get ws [] n h = tt
 stored_get ws (k ∷ ks) zero h = h.0
 stored_get ws (k ∷ ks) (suc n) h = stored_get ws ks n h.1
+
+pub stored_at : (ws : List Waiter) (ks : List KeptJob) (n : ℕ) (o : Option KeptJob) → o ≡ job_at n ks → HaveStores ws ks → IfSome o (λ k. HasStore ws k)
+stored_at ws ks zero o e h = subst (λ (x : Option KeptJob). IfSome x (λ k. HasStore ws k)) (sym e) tt
+stored_at ws ks (suc n) o e h = subst (λ (x : Option KeptJob). IfSome x (λ k. HasStore ws k)) (sym e) (stored_get ws ks n h)
+
+pub job_get : {J : Type 0} (js : List J) (n m : ℕ) → n ≡ suc m → slice_get js m ≡ job_at n js
+job_get js n m e = ap (λ (x : ℕ). job_at x js) (sym e)
 
 -- a job whose delivery may be accepted has its store
 waits_still : (o : Option Waiter) → refusal_unevaluated o ≡ None → (w : Waiter) × (o ≡ Some w)

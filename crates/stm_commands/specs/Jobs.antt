@@ -99,8 +99,8 @@ abbrev pub delivery_step : DeskView → HandedOut → Option DeliverError → De
 delivery_step d j None = (installed d j.ticket (verdict (cell_value j.store) j.block.tree), delivered_line j.ticket)
 delivery_step d j (Some e) = (requeued_if_overtaken e j.ticket d, deliver_error_text e)
 
--- the job of a number
-abbrev pub job_at : ℕ → List HandedOut → Option HandedOut
+-- the job of a number, which counts from 1
+abbrev pub job_at : {J : Type 0} → ℕ → List J → Option J
 job_at zero jobs = None
 job_at (suc n) jobs = slice_get jobs n
 

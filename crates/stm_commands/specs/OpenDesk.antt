@@ -1,12 +1,12 @@
 -- An open desk, as the console has it, and its steps: a new desk, and what is printed.
-use Rattle.std.specs.Prelude.{◌≡◌, ℕ, List, [], ◌++◌, None}
+use Rattle.std.specs.Prelude.{◌≡◌, ℕ, List, [], ◌++◌}
 use Rattle.stm_terms.specs.declared.kinds.Ty.{Ty}
 use Rattle.stm_terms.specs.declared.values.Value.{Value}
 use Rattle.stm_check.specs.TypedBlock.{Block}
 use Rattle.stm_store.specs.declared.cell.Cell.{Cell}
 use Rattle.stm_store.specs.Naming.{Named}
 use Rattle.stm_store.specs.Tables.{Declared}
-use Rattle.stm_desk.specs.DeskView.{DeskView, state_of}
+use Rattle.stm_desk.specs.DeskView.{DeskView, new_desk, state_of}
 
 -- a job that was handed out: a ticket, its block, and the store at its `take`
 pub record HandedOut : Type 0 where
@@ -25,7 +25,7 @@ without_jobs desk = record { desk = desk; jobs = [] }
 
 -- the desk on which nothing has happened, with these variables and a limit of events
 abbrev pub opened_desk : List Declared → ℕ → OpenDesk
-opened_desk table limit = without_jobs (record { table = table; checkpoint = None; limit = limit; history = []; pending = [] })
+opened_desk table limit = without_jobs (new_desk table limit)
 
 -- the present store
 abbrev pub present : OpenDesk → List Cell

@@ -1,10 +1,9 @@
 //! Jobs that were handed out, each with the store at its `take`.
 
-ghost use Rattle.std.specs.Prelude.{◌≡◌, List, map, IfOk, option_map, IfSome};
-ghost use Rattle.stm_events.specs.SlowDesk.{Waiter};
+ghost use Rattle.std.specs.Prelude.{◌≡◌, map, IfOk};
 ghost use Rattle.std.specs.Option.{option_copied};
 ghost use Rattle.stm_commands.specs.Jobs.{job_at};
-ghost use Rattle.stm_commands.specs.OpenInvariant.{handed_out, job_kept, job_within, IsStored, AreStored, HasStore, HaveStores};
+ghost use Rattle.stm_commands.specs.OpenInvariant.{handed_out, job_kept, job_within, IsStored, AreStored};
 
 use std::alloc::Global;
 use std::snapshot::Snapshot;
@@ -66,12 +65,7 @@ pub fn with_store(alloc: Global, store: &Frozen, jobs: Vec<Job>) -> Result<Vec<K
 
 /// The job of a number, which counts from 1.
 pub fn job_of_number(jobs: &[KeptJob], number: u32) -> Option<&KeptJob>
-    // Seen with the stores at their `take`, it is the job of this number.
-    ensures kept { option_map job_kept (option_copied result)
-        ≡ job_at number (map job_kept jobs.now) }
-    // If each of these jobs whose ticket waits has its store, so has this one.
-    ensures stored { (ws : List Waiter) → HaveStores ws jobs.now
-        → IfSome (option_copied result) (λ k. HasStore ws k) }
+    ensures { option_copied result ≡ job_at number jobs.now }
 {
     if number == 0 {
         return None;

@@ -1,17 +1,17 @@
 -- What contracts see of a desk: all else follows from it.
-use Rattle.std.specs.Prelude.{◌≡◌, ℕ, ◌+◌, Bool, true, false, nat_le, nat_lt, List, [], ◌∷◌, ◌++◌, length, Option, Some, is_some}
+use Rattle.std.specs.Prelude.{◌≡◌, ℕ, ◌+◌, Bool, true, false, nat_le, nat_lt, List, [], ◌∷◌, ◌++◌, length, Option, Some, None, is_some}
 use Rattle.stm_store.specs.Tables.{Declared}
 use Rattle.stm_queue.specs.Queue.{Entry, has_ticket, with_ticket, without_ticket}
 use Rattle.stm_events.specs.declared.event.Event.{Event}
 use Rattle.stm_events.specs.declared.event.What.{What}
 use Rattle.stm_events.specs.declared.event.What.TheVariants.{Submitted, Installed, Finished, Cancelled, Declared as DeclaredLate, Labelled}
-use Rattle.stm_events.specs.Labels.{Labels, labels_from}
+use Rattle.stm_events.specs.Labels.{Labels}
 use Rattle.stm_events.specs.Laws.{SubmittedAreWellTyped}
 use Rattle.stm_events.specs.SlowDesk.{Slow, Waiter, verdict_on, find_waiter, state_from}
 use Rattle.stm_events.specs.SlowSettle.{settling}
 use Rattle.stm_events.specs.Rounds.{a_round}
 use Rattle.stm_events.specs.States.{IsLegalFrom}
-use Rattle.stm_machine.specs.Checkpoints.{CheckpointView, start_of, first_labels, MayStart}
+use Rattle.stm_machine.specs.Checkpoints.{CheckpointView, start_of, labels_of_history, MayStart}
 use Rattle.stm_machine.specs.Machine.{Parts, IsAt, event}
 use Rattle.stm_machine.specs.QueueAndIndex.{due_of, with_tickets}
 use Rattle.stm_machine.specs.SettleChoices.{some_out}
@@ -25,6 +25,10 @@ pub record DeskView : Type 0 where
   pub history : List Event
   pub pending : List (ℕ × Bool)
 
+-- a desk on which nothing has happened, with these variables and a limit of events
+abbrev pub new_desk : List Declared → ℕ → DeskView
+new_desk table most = record { table = table; checkpoint = None; limit = most; history = []; pending = [] }
+
 -- the state that the history begins from: the first values of the variables, or the checkpoint
 abbrev pub start_state : DeskView → Slow
 start_state d = start_of d.table d.checkpoint
@@ -35,7 +39,7 @@ state_of d = state_from (start_state d) d.history
 
 -- the labels of the waiting blocks: those with which the history begins, as its events change them
 abbrev pub labels_of : DeskView → Labels
-labels_of d = labels_from (first_labels d.checkpoint) d.history
+labels_of d = labels_of_history d.checkpoint d.history
 
 -- the tickets that are queued or out, after one event more
 abbrev pub pending_after : What → List Entry → List Entry

@@ -3,12 +3,12 @@
 use Rattle.std.specs.Prelude.{ℕ, ◌≤◌, List, length, Option}
 use Rattle.stm_store.specs.Tables.{Declared}
 use Rattle.stm_events.specs.declared.event.Event.{Event}
-use Rattle.stm_events.specs.Labels.{Labels, AreLabels, AreSameLabels, labels_from}
+use Rattle.stm_events.specs.Labels.{Labels, AreLabels, AreSameLabels}
 use Rattle.stm_events.specs.SlowDesk.{state_from}
 use Rattle.stm_terms.specs.Limits.{max_events}
 use Rattle.stm_events.specs.States.{IsLegalFrom}
 use Rattle.stm_events.specs.Laws.{SubmittedAreWellTyped}
-use Rattle.stm_machine.specs.Checkpoints.{CheckpointView, start_of, first_labels, MayStart}
+use Rattle.stm_machine.specs.Checkpoints.{CheckpointView, start_of, labels_of_history, MayStart}
 use Rattle.stm_machine.specs.Machine.{Parts, IsAt}
 
 -- the history may begin from the checkpoint, if there is one, and is legal from there; the machine is at its state; and it has no more
@@ -24,5 +24,5 @@ pub record DeskInvariant
 
 -- the labels that are kept are those with which the history begins, as its events change them
 pub record HasLabels (checkpoint : Option CheckpointView) (history : List Event) (held : Labels) : Type 0 where
-  pub same : AreSameLabels held (labels_from (first_labels checkpoint) history)
+  pub same : AreSameLabels held (labels_of_history checkpoint history)
   pub each : AreLabels held

@@ -1,8 +1,8 @@
 //! The desk, and how it opens.
 
-ghost use Rattle.std.specs.Prelude.{◌≡◌, ◌≤◌, [], IfOk, None};
+ghost use Rattle.std.specs.Prelude.{◌≡◌, ◌≤◌, IfOk};
 ghost use Rattle.stm_terms.specs.Limits.{max_events as most_events};
-ghost use Rattle.stm_desk.specs.DeskView.{is_full};
+ghost use Rattle.stm_desk.specs.DeskView.{new_desk, is_full};
 
 use crate::past::Past;
 use std::alloc::Global;
@@ -72,11 +72,7 @@ impl Desk {
     /// A desk with the variables of a table, on which no block waits. It takes this many events.
     pub fn open(alloc: Global, table: &Table, max_events: u32) -> Result<Desk, NoMemory>
         requires { max_events ≤ most_events }
-        ensures table { IfOk result (λ d. d.table ≡ table.now) }
-        ensures checkpoint { IfOk result (λ d. d.checkpoint ≡ None) }
-        ensures limit { IfOk result (λ d. d.limit ≡ max_events) }
-        ensures history { IfOk result (λ d. d.history ≡ []) }
-        ensures pending { IfOk result (λ d. d.pending ≡ []) }
+        ensures { IfOk result (λ d. d ≡ new_desk table.now max_events) }
     {
         let machine = Machine::open(alloc, StalenessRule::Changed, table)?;
         let table = table.copy(alloc)?;

@@ -11,7 +11,7 @@ ghost use Rattle.stm_machine.specs.Machine.{event, IsAt, MovesBy};
 ghost use Rattle.stm_machine.specs.Plans.{IsPlan};
 ghost use Rattle.stm_machine.specs.QueueAndIndex.{with_tickets};
 ghost use Rattle.stm_desk.specs.DeskView.{state_of, is_full, with_event};
-ghost use Rattle.stm_desk.specs.Events.{finish_of};
+ghost use Rattle.stm_desk.specs.Events.{finish_of, HasFinishedBlock};
 ghost use Rattle.stm_desk.specs.Refusals.{finish_refusal};
 
 use crate::desk::Desk;
@@ -173,12 +173,9 @@ impl Desk {
     ) -> Result<Finish, FinishError>
         requires { client < max_clients }
         // Accepted: one more event, the finish of this ticket, here and in the client's list.
-        ensures accepted { IfOk result (λ f. self.new ≡ with_event self.old client (finish_of ticket f)) }
+        ensures accepted { IfOk result (HasFinishedBlock client ticket self.old self.new) }
         ensures noted { IfOk result (λ f. own.new.items
             ≡ own.old.items ++ event client (finish_of ticket f) ∷ []) }
-        ensures plan { IfOk result (λ f.
-            IsPlan (state_of self.old) ticket f.verdict f.applied.first_new f.stale) }
-        ensures applied { IfOk result (λ f. f.applied ≡ applied_answer (state_of self.old).store f.verdict) }
         // Refused for the first reason that holds, or for lack of memory if none does.
         ensures refused { RefusedAs FinishError.NoMemory (finish_refusal self.old ticket) result }
         ensures unchanged { OnErr result ((self.new ≡ self.old) × (own.new.items ≡ own.old.items)) }
@@ -197,10 +194,7 @@ impl Desk {
     pub fn finish(&mut self, client: u32, ticket: u32) -> Result<Finish, FinishError>
         requires { client < max_clients }
         // Accepted: one more event, the finish of this ticket.
-        ensures accepted { IfOk result (λ f. self.new ≡ with_event self.old client (finish_of ticket f)) }
-        ensures plan { IfOk result (λ f.
-            IsPlan (state_of self.old) ticket f.verdict f.applied.first_new f.stale) }
-        ensures applied { IfOk result (λ f. f.applied ≡ applied_answer (state_of self.old).store f.verdict) }
+        ensures accepted { IfOk result (HasFinishedBlock client ticket self.old self.new) }
         // Refused for the first reason that holds, or for lack of memory if none does.
         ensures refused { RefusedAs FinishError.NoMemory (finish_refusal self.old ticket) result }
         ensures unchanged { OnErr result (self.new ≡ self.old) }

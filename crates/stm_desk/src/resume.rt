@@ -1,9 +1,9 @@
 //! A desk that goes on from where a history ends.
 
 ghost use Rattle.std.specs.Prelude.{◌≤◌, ◌↔◌, length, IsOk, IfOk};
-ghost use Rattle.stm_events.specs.Labels.{AreSameLabels, labels_from};
+ghost use Rattle.stm_events.specs.Labels.{AreSameLabels};
 ghost use Rattle.stm_terms.specs.Limits.{max_events as most_events};
-ghost use Rattle.stm_machine.specs.Checkpoints.{first_labels};
+ghost use Rattle.stm_machine.specs.Checkpoints.{labels_of_history};
 ghost use Rattle.stm_desk.specs.DeskView.{CanResume, IsResumed};
 
 use crate::desk::Desk;
@@ -35,7 +35,7 @@ impl Desk {
         // The history is legal, and the machine is at the state that it leads to.
         requires history { CanResume table checkpoint events.items machine }
         // The labels are those that the events give.
-        requires labels { AreSameLabels labels (labels_from (first_labels checkpoint) events.items) }
+        requires labels { AreSameLabels labels (labels_of_history checkpoint events.items) }
         requires small { max_events ≤ most_events }
         ensures fits { IsOk result ↔ (length events.items ≤ max_events) }
         ensures resumed { IfOk result (IsResumed table checkpoint events.items max_events) }
@@ -56,7 +56,7 @@ impl Desk {
         max_events: u32,
     ) -> Desk
         requires history { CanResume table checkpoint events.items machine }
-        requires labels { AreSameLabels labels (labels_from (first_labels checkpoint) events.items) }
+        requires labels { AreSameLabels labels (labels_of_history checkpoint events.items) }
         requires small { max_events ≤ most_events }
         requires few { length events.items ≤ max_events }
         ensures { IsResumed table checkpoint events.items max_events result }

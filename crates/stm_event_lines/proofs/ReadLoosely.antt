@@ -1,22 +1,24 @@
 -- A line is read as what it is the line of, however loosely lines are read.
-use Rattle.std.proofs.Common.{◌≡◌, ℕ, List, Option, Some, None, ◌∙◌}
-use Rattle.std.specs.Prelude.{IfOk, IfSome, Result, Ok, Err, option_map, string_bytes}
+use Rattle.std.proofs.Common.{◌≡◌, ℕ, Bool, true, false, List, Option, Some, None, ◌∙◌}
+use Rattle.std.specs.Prelude.{◌&&◌, IfOk, IfSome, Result, Ok, Err, option_map, string_bytes}
 use Rattle.std.specs.Str.{IsUtf8}
 use Rattle.serde_json.specs.Data.{Data}
 use Rattle.serde_json.specs.Read.{read}
 use Rattle.stm_store.specs.declared.cell.Cell.{Cell}
 use Rattle.stm_store.specs.Naming.{Named}
+use Rattle.stm_store.specs.Tables.{Declared}
 use Rattle.stm_events.specs.declared.event.Event.{Event}
 use Rattle.stm_event_lines.specs.declared.checkpoint.NamedCell.{NamedCell}
 use Rattle.stm_event_lines.specs.declared.checkpoint.WaitingBlock.{WaitingBlock}
-use Rattle.stm_event_lines.specs.CheckpointFields.{cell_of, cell_parts, waiting_of}
+use Rattle.stm_event_lines.specs.declared.variable.Variable.{Variable}
+use Rattle.stm_event_lines.specs.CheckpointFields.{cell_of, waiting_of}
 use Rattle.stm_event_lines.specs.CheckpointLines.{FitsCell, FitsNamedCell, FitsWaitingBlock, line_of_cell, line_of_waiting}
-use Rattle.stm_event_lines.specs.Fields.{event_of}
-use Rattle.stm_event_lines.specs.Fits.{FitsNames}
-use Rattle.stm_event_lines.specs.Lines.{event_line}
-use Rattle.stm_event_lines.specs.ReadLines.{CanBeReadAs}
+use Rattle.stm_event_lines.specs.Fields.{declared_from_json, event_of}
+use Rattle.stm_event_lines.specs.Fits.{FitsNames, FitsVariable}
+use Rattle.stm_event_lines.specs.Lines.{event_line, variable_line}
+use Rattle.stm_event_lines.specs.ReadLines.{CanBeReadAs, cell_parts, declared}
 use Rattle.stm_event_lines.proofs.Checkpoints.{cell_is, waiting_is}
-use Rattle.stm_event_lines.proofs.ReadsBack.{event_is, event_unread}
+use Rattle.stm_event_lines.proofs.ReadsBack.{event_is, event_unread, variable_is}
 
 pub loose_same : {E : Type 0} (r : Result (Option Event) E) (known : List Named) (line : List ℕ) (json : Data) → read line ≡ Some json → IfOk r (λ o. IfSome o (λ e. FitsNames known e)) → IfOk r (λ o. o ≡ event_of known json)
     → IfOk r (CanBeReadAs (FitsNames known) event_line line)
@@ -42,3 +44,19 @@ pub loose_waiting_same : {E : Type 0} (r : Result (Option WaitingBlock) E) (know
     → IfOk r (CanBeReadAs (FitsWaitingBlock known) line_of_waiting line)
 loose_waiting_same (Ok o) known line json ok fits h = (fits, λ w f l. h ∙ waiting_is known line w.ticket w.block w.cause w.label w.delivery json f l ok)
 loose_waiting_same (Err e) known line json ok fits h = tt
+
+-- two tests, of which one doesn't hold
+pub not_both : (a b : Bool) → b ≡ false → (a && b) ≡ true → ⊥
+not_both true b unset both = cc (unset, both)
+not_both false b unset both = cc both
+
+-- a variable that fits, as tables have it
+declared_fits : (o : Option Variable) → IfSome o (λ v. FitsVariable (declared v)) → IfSome (option_map declared o) FitsVariable
+declared_fits (Some v) h = h
+declared_fits None h = tt
+
+pub loose_variable_same : {E : Type 0} (r : Result (Option Variable) E) (line : List ℕ) (json : Data) → read line ≡ Some json → IfOk r (λ o. IfSome o (λ v. FitsVariable (declared v)))
+    → IfOk r (λ o. (d : Declared) → FitsVariable d → declared_from_json json ≡ Some d → option_map declared o ≡ Some d)
+    → IfOk r (λ o. CanBeReadAs FitsVariable variable_line line (option_map declared o))
+loose_variable_same (Ok o) line json ok fits h = (declared_fits o fits, λ d f l. h d f (variable_is line d json f l ok))
+loose_variable_same (Err e) line json ok fits h = tt

@@ -1,6 +1,6 @@
 -- The text of a line reads as its value, and the value as what it was written for.
-use Rattle.std.proofs.Common.{◌≡◌, inl, inr, ℕ, ◌≤◌, ◌<◌, ◌^◌, List, [], ◌∷◌, Option, Some, None, true, refl, sym, ap, ◌∙◌, arith, append-nil, subst, pos, negsuc}
-use Rattle.std.specs.Prelude.{option_and_then}
+use Rattle.std.proofs.Common.{◌≡◌, inl, inr, ℕ, ◌≤◌, ◌<◌, ◌^◌, List, [], ◌∷◌, Option, Some, None, true, false, refl, sym, ap, ◌∙◌, arith, append-nil, subst, pos, negsuc}
+use Rattle.std.specs.Prelude.{codes, is_some, option_and_then}
 use Rattle.std.specs.Str.{IsUtf8}
 use Rattle.std.proofs.lemmas.Str.{IsUtf8-from_ascii}
 use Rattle.std.proofs.lemmas.Bool.{lt-ltb}
@@ -11,6 +11,7 @@ use Rattle.json.specs.Json as json
 use Rattle.json.proofs.Printed.Tokens.{tokens-print}
 use Rattle.json.proofs.Printed.Trees.{value-json_tokens, ArePrintable-json_tokens}
 use Rattle.serde_json.specs.Data.{Data}
+use Rattle.serde_json.specs.Find.{get}
 use Rattle.serde_json.specs.Read.{read, of_json, max_depth}
 use Rattle.serde_json.specs.Written.{outline, compact_text}
 use Rattle.serde_json.proofs.Texts.{print-outline}
@@ -150,6 +151,11 @@ event_is known line e g f l some = let same : g ≡ event_data e = same_data lin
 pub header_is : (line : List ℕ) (format n : ℕ) (g : Data) → IsFormat format → Is32Bit n → header_line format n ≡ line → read line ≡ Some g → header_of g ≡ Some (record { format = format; vars = n })
 unfolding header_line
 header_is line format n g k f l some = let same : g ≡ header_data format n = same_data line (header_data format n) g (header_reads format n k f) l some in rw same (header_back format n k f)
+
+-- it has no next ticket, as the first line of a checkpoint has
+pub header_no_next : (line : List ℕ) (format n : ℕ) (g : Data) → IsFormat format → Is32Bit n → header_line format n ≡ line → read line ≡ Some g → is_some (get (codes "next") g) ≡ false
+unfolding header_line
+header_no_next line format n g k f l some = let same : g ≡ header_data format n = same_data line (header_data format n) g (header_reads format n k f) l some in rw same refl
 
 pub variable_is : (line : List ℕ) (d : Declared) (g : Data) → FitsVariable d → variable_line d ≡ line → read line ≡ Some g → declared_from_json g ≡ Some d
 unfolding variable_line

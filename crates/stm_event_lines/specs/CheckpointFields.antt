@@ -1,6 +1,6 @@
 -- What a JSON value stands for among the lines of a checkpoint, as the reader finds it. A line is accepted where what was found has
 -- this very line again.
-use Rattle.std.specs.Prelude.{ℕ, nat_eq, ◌||◌, List, [], codes, Bool, if◌then◌else◌, Option, Some, None, option_map, option_and_then, is_some, string_bytes}
+use Rattle.std.specs.Prelude.{ℕ, nat_eq, ◌||◌, List, [], codes, Bool, if◌then◌else◌, Option, Some, None, option_map, option_and_then, is_some}
 use Rattle.serde_json.specs.Data.{Data}
 use Rattle.serde_json.specs.Find.{get, as_null, as_bool, as_str, as_number, as_u64}
 use Rattle.stm_terms.specs.declared.values.Value.{Value}
@@ -11,7 +11,6 @@ use Rattle.stm_events.specs.Delivered.{Delivered}
 use Rattle.stm_events.specs.declared.kept_cause.KeptCause.{KeptCause}
 use Rattle.stm_events.specs.Labels.{is_label}
 use Rattle.stm_event_lines.specs.declared.checkpoint.CheckpointHeader.{CheckpointHeader}
-use Rattle.stm_event_lines.specs.declared.checkpoint.NamedCell.{NamedCell}
 use Rattle.stm_event_lines.specs.declared.checkpoint.WaitingBlock.{WaitingBlock}
 use Rattle.stm_event_lines.specs.CheckpointLines.{checkpoint_format}
 use Rattle.stm_event_lines.specs.Lines.{declaring_format}
@@ -57,10 +56,6 @@ abbrev pub cell_of : Data → Option (Option (List ℕ) × Cell)
 cell_of d =
     option_and_then (λ count. option_and_then (counted_cell_of d count) (option_and_then value_of (get (codes "init") d)))
     (count_field (codes "count") d)
-
--- the parts of a variable that was read
-abbrev pub cell_parts : NamedCell → Option (List ℕ) × Cell
-cell_parts c = (option_map string_bytes c.name, c.cell)
 
 -- ---- a waiting block
 -- a truth value under a key

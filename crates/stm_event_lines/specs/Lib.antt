@@ -8,4 +8,3 @@ pub mod ReadLines
 pub mod CheckpointFields
 pub mod Fields
 pub mod Sending
-pub mod Variables

@@ -21,9 +21,9 @@ use Rattle.stm_events.specs.declared.staleness.StalenessRule.TheVariants.{Writte
 use Rattle.stm_event_lines.specs.declared.read.Header.{Header}
 
 -- formats 1 to 3 are those of histories that begin with the first values of their variables, declare no variable late and label no
--- block; the latest is written
-abbrev pub latest_format : ℕ
-latest_format = 3
+-- block; the last of them is written
+abbrev pub table_format : ℕ
+table_format = 3
 
 -- the format of histories in which a variable is declared late, or was before their checkpoint, or a block is labelled, or of a block in the
 -- checkpoint it is known why it is stale
@@ -32,7 +32,7 @@ declaring_format = 5
 
 -- the formats of histories that begin with the first values of their variables
 abbrev pub IsFormat : ℕ → Type 0
-IsFormat format = ((1 ≤ format) × (format ≤ latest_format)) ⊎ (format ≡ declaring_format)
+IsFormat format = ((1 ≤ format) × (format ≤ table_format)) ⊎ (format ≡ declaring_format)
 
 -- the rule by which the blocks of a history become stale: in formats 1 and 2 a block wakes the readers of all that it wrote
 abbrev pub rule_of : ℕ → StalenessRule

@@ -1,6 +1,8 @@
 -- What reading a line returns: a line is read exactly if it is the text of something that fits.
-use Rattle.std.specs.Prelude.{◌≡◌, ◌≢◌, List, ℕ, Option, Some, Result, Ok, Err, IfSome}
+use Rattle.std.specs.Prelude.{◌≡◌, ◌≢◌, List, ℕ, Option, Some, Result, Ok, Err, IfSome, option_map, string_bytes}
+use Rattle.stm_store.specs.declared.cell.Cell.{Cell}
 use Rattle.stm_store.specs.Naming.{Named}
+use Rattle.stm_store.specs.Tables.{Declared}
 use Rattle.stm_events.specs.declared.event.Event.{Event}
 use Rattle.stm_event_lines.specs.declared.checkpoint.CheckpointHeader.{CheckpointHeader}
 use Rattle.stm_event_lines.specs.declared.checkpoint.NamedCell.{NamedCell}
@@ -9,11 +11,17 @@ use Rattle.stm_event_lines.specs.declared.read.Header.{Header}
 use Rattle.stm_event_lines.specs.declared.read.LineError.{LineError}
 use Rattle.stm_event_lines.specs.declared.read.LineError.TheVariants.{Bad}
 use Rattle.stm_event_lines.specs.declared.variable.Variable.{Variable}
-use Rattle.stm_event_lines.specs.CheckpointFields.{cell_parts}
 use Rattle.stm_event_lines.specs.CheckpointLines.{FitsCheckpointHeader, FitsNamedCell, FitsWaitingBlock, line_of_cell, line_of_checkpoint_header, line_of_waiting}
 use Rattle.stm_event_lines.specs.Fits.{FitsHeader, FitsNames, FitsVariable}
 use Rattle.stm_event_lines.specs.Lines.{event_line, line_of_header, variable_line}
-use Rattle.stm_event_lines.specs.Variables.{declared}
+
+-- a variable that was read, as an entry of a table
+abbrev pub declared : Variable → Declared
+declared v = record { name = string_bytes v.name; kind = v.kind; value = v.value }
+
+-- the name, if there is one, and the cell of a variable that was read
+abbrev pub cell_parts : NamedCell → Option (List ℕ) × Cell
+cell_parts c = (option_map string_bytes c.name, c.cell)
 
 -- What reading the line returns: something that fits and whose text is the line, where `seen` is how contracts see it. The line is bad
 -- only if it is the text of nothing that fits; memory may run out for any line.

@@ -12,13 +12,13 @@ ghost use Rattle.stm_check.specs.TypedBlock.{Block};
 ghost use Rattle.stm_events.specs.Delivered.{Delivered};
 ghost use Rattle.stm_events.specs.declared.kept_cause.KeptCause.{KeptCause as AnyCause};
 ghost use Rattle.stm_events.specs.Labels.{is_label};
-ghost use Rattle.stm_event_lines.specs.CheckpointFields.{checkpoint_header_of as header_meant, count_field, name_of, counted_cell_of, cell_of as cell_meant, cell_parts, bool_field, delivery_in, delivery_of as delivery_meant, label_in as label_in_meant, label_field, cause_in, cause_field, waiting_of as waiting_meant};
+ghost use Rattle.stm_event_lines.specs.CheckpointFields.{checkpoint_header_of as header_meant, count_field, name_of, counted_cell_of, cell_of as cell_meant, bool_field, delivery_in, delivery_of as delivery_meant, label_in as label_in_meant, label_field, cause_in, cause_field, waiting_of as waiting_meant};
 ghost use Rattle.stm_event_lines.specs.CheckpointLines.{IsCheckpointFormat, checkpoint_header_data, checkpoint_header_line, name_data, cell_data, cell_line, label_before, cause_before, delivery_members, members_after_text, parts_delivered, given_data, given_line, line_of_waiting, waiting_line, FitsName, FitsCell, FitsCause, FitsDelivery, FitsWaitingBlock};
 ghost use Rattle.stm_event_lines.specs.Fields.{text_field, verdict_field};
 ghost use Rattle.stm_source.specs.CompiledBlock.{block_of_text};
 ghost use Rattle.stm_event_lines.specs.Fits.{Is32Bit, FitsValue, FitsVerdict};
 ghost use Rattle.stm_event_lines.specs.Lines.{write_data};
-ghost use Rattle.stm_event_lines.specs.ReadLines.{ReadsCell, ReadsCheckpointHeader, ReadsWaiting};
+ghost use Rattle.stm_event_lines.specs.ReadLines.{ReadsCell, ReadsCheckpointHeader, ReadsWaiting, cell_parts};
 ghost use Rattle.stm_event_lines.specs.Sending.{SendsMember};
 
 use crate::build::{type_text, value_json};
@@ -84,7 +84,7 @@ fn header_json(
     json!(in alloc; {"format": format, "next": next, "vars": vars, "waiting": waiting})
 }
 
-/// The first line.
+/// The first line of a checkpoint.
 #[tactic(auto, unfolding(crate::specs::CheckpointLines::checkpoint_header_line))]
 pub fn checkpoint_header_text(
     alloc: Global,
@@ -119,7 +119,7 @@ fn cell_json(alloc: Global, name: Option<&str>, cell: Cell) -> Result<Json, NoMe
     })
 }
 
-/// The line of a variable; none is the name of one that a block made.
+/// The line of a variable of a checkpoint; none is the name of one that a block made.
 #[tactic(auto, unfolding(crate::specs::CheckpointLines::cell_line))]
 pub fn cell_text(alloc: Global, name: Option<&str>, cell: Cell) -> Result<String, NoMemory>
     ensures { IfOk result (λ s. string_bytes s ≡ cell_line (option_map (λ n. n.now) name.entry) cell) }
@@ -300,7 +300,7 @@ impl Serialize for WaitingLine<'_> {
     }
 }
 
-/// The line of a waiting block.
+/// The line of a waiting block of a checkpoint.
 pub fn waiting_line_text(line: &WaitingLine<'_>) -> Result<String, NoMemory>
     ensures { IfOk result (λ s. string_bytes s ≡ given_line line.now) }
 {
@@ -356,7 +356,7 @@ fn header_in(alloc: Global, json: &Json, line: &[u8]) -> Result<CheckpointHeader
     }
 }
 
-/// Reads the first line, exactly if it is one of a format of checkpoints.
+/// Reads the first line of a checkpoint, exactly if it is one of a format of checkpoints.
 pub fn read_checkpoint_header(alloc: Global, line: &[u8]) -> Result<CheckpointHeader, LineError>
     ensures { ReadsCheckpointHeader line.now result }
 {
@@ -438,7 +438,7 @@ pub(crate) fn cell_of(alloc: Global, json: &Json) -> Result<Option<NamedCell>, N
     counted_cell(alloc, json, count, value)
 }
 
-/// The name, if there is one.
+/// The name of a variable of a checkpoint, if it has one.
 pub fn name_of_cell(cell: &NamedCell) -> Option<&str>
     ensures { option_map (λ n. n.now) result ≡ option_map string_bytes cell.now.name }
 {
@@ -480,7 +480,7 @@ fn cell_in(alloc: Global, json: &Json, line: &[u8]) -> Result<NamedCell, LineErr
     }
 }
 
-/// Reads a variable's line, exactly if it is one.
+/// Reads the line of a variable of a checkpoint, exactly if it is one.
 pub fn read_cell(alloc: Global, line: &[u8]) -> Result<NamedCell, LineError>
     ensures { ReadsCell line.now result }
 {
@@ -669,7 +669,7 @@ fn parts_of(delivery: Option<&Delivery>) -> Option<DeliveredParts<'_>>
     }
 }
 
-/// The line of a waiting block that was read.
+/// The line of a waiting block of a checkpoint that was read.
 pub fn waiting_text(alloc: Global, waiting: &WaitingBlock) -> Result<String, NoMemory>
     ensures { IfOk result (λ s. string_bytes s ≡ line_of_waiting waiting.now) }
 {
@@ -723,7 +723,7 @@ fn waiting_in(
     if_line(alloc, waiting, line)
 }
 
-/// Reads the line of a waiting block, exactly if it is one whose text is a block over the names.
+/// Reads the line of a waiting block of a checkpoint, exactly if it is one whose text is a block over the names.
 pub fn read_waiting(alloc: Global, known: &Names, line: &[u8]) -> Result<WaitingBlock, LineError>
     ensures { ReadsWaiting known.now line.now result }
 {

@@ -14,7 +14,7 @@ pub const FIRST_FORMAT: u32 = 1;
 
 /// The format that is written of histories that begin with the first values of their variables, declare no variable late and label no
 /// block.
-pub const LATEST_FORMAT: u32 = 3;
+pub const TABLE_FORMAT: u32 = 3;
 
 /// The format of histories that begin from a checkpoint, if no variable is declared late, none was before the checkpoint, no block is
 /// labelled, and of no block in the checkpoint it is known why it is stale.
@@ -28,7 +28,7 @@ pub const DECLARING_FORMAT: u32 = 5;
 pub(crate) fn is_format(format: u32) -> bool
     ensures { IsTrue result ↔ IsFormat format }
 {
-    FIRST_FORMAT <= format && format <= LATEST_FORMAT || format == DECLARING_FORMAT
+    FIRST_FORMAT <= format && format <= TABLE_FORMAT || format == DECLARING_FORMAT
 }
 
 /// Whether histories of the format that begin from a checkpoint are read.

@@ -1,17 +1,18 @@
 //! Lines read whether or not their JSON is written as it has to be: with blanks, and with keys in another order.
 
-ghost use Rattle.std.specs.Prelude.{◌≡◌, ◌≤◌, ◌<◌, ◌^◌, ℕ, ◌&&◌, nat_eq, is_some, List, Option, Some, IfOk, IfSome, option_map, string_bytes, codes};
+ghost use Rattle.std.specs.Prelude.{◌≡◌, ◌≤◌, ◌<◌, ◌^◌, ℕ, ◌&&◌, nat_eq, is_some, false, List, Option, Some, IfOk, IfSome, option_map, string_bytes, codes};
 ghost use Rattle.serde_json.specs.Find.{get};
 ghost use Rattle.serde_json.specs.View.{view};
 ghost use Rattle.stm_store.specs.declared.cell.Cell.{Cell as AnyCell};
+ghost use Rattle.stm_store.specs.Tables.{Declared};
 ghost use Rattle.stm_terms.specs.Limits.{most_refs};
-ghost use Rattle.stm_event_lines.specs.CheckpointFields.{cell_of as cell_meant, cell_parts, checkpoint_header_in};
+ghost use Rattle.stm_event_lines.specs.declared.read.Header.{Header as AnyHeader};
+ghost use Rattle.stm_event_lines.specs.CheckpointFields.{cell_of as cell_meant, checkpoint_header_in};
 ghost use Rattle.stm_event_lines.specs.CheckpointLines.{IsCheckpointFormat, line_of_cell, line_of_checkpoint_header, line_of_waiting, FitsCell, FitsCheckpointHeader, FitsNamedCell, FitsWaitingBlock};
-ghost use Rattle.stm_event_lines.specs.Fields.{event_of as event_meant};
-ghost use Rattle.stm_event_lines.specs.Fits.{Is32Bit, FitsNames, FitsValue, FitsVariable};
-ghost use Rattle.stm_event_lines.specs.Lines.{IsFormat, declaring_format, event_line};
-ghost use Rattle.stm_event_lines.specs.ReadLines.{CanBeReadAs};
-ghost use Rattle.stm_event_lines.specs.Variables.{declared};
+ghost use Rattle.stm_event_lines.specs.Fields.{declared_from_json as variable_meant, event_of as event_meant, header_of as header_meant};
+ghost use Rattle.stm_event_lines.specs.Fits.{Is32Bit, FitsHeader, FitsNames, FitsValue, FitsVariable};
+ghost use Rattle.stm_event_lines.specs.Lines.{declaring_format, event_line, line_of_header, variable_line};
+ghost use Rattle.stm_event_lines.specs.ReadLines.{CanBeReadAs, cell_parts, declared};
 
 use crate::checkpoint::{
     CheckpointHeader, NamedCell, WaitingBlock, cell_of, header_of as checkpoint_header_of,
@@ -56,7 +57,9 @@ fn is_of_checkpoint(json: &Json, format: u32) -> bool
 
 /// The first line that a value represents, if it is one of a format that is read.
 fn header_read(json: &Json) -> Option<Header>
-    ensures { IfSome result (λ h. IsFormat h.format) }
+    ensures fits { IfSome result FitsHeader }
+    ensures same { (h : AnyHeader) → FitsHeader h → header_meant (view json.now) ≡ Some h
+        → is_some (get (codes "next") (view json.now)) ≡ false → result ≡ Some h }
 {
     match header_of(json) {
         Some(header) => {
@@ -72,7 +75,7 @@ fn header_read(json: &Json) -> Option<Header>
 
 /// The first line that a line can be read as, of a format that is read.
 pub fn loose_header(alloc: Global, line: &[u8]) -> Result<Option<Header>, NoMemory>
-    ensures { IfOk result (λ o. IfSome o (λ h. IsFormat h.format)) }
+    ensures { IfOk result (CanBeReadAs FitsHeader line_of_header line.now) }
 {
     match json_of(alloc, line) {
         Ok(json) => Ok(header_read(&json)),
@@ -84,7 +87,8 @@ pub fn loose_header(alloc: Global, line: &[u8]) -> Result<Option<Header>, NoMemo
 /// The variable, if its name is one.
 fn named(variable: Variable) -> Option<Variable>
     requires { (variable.kind.refs ≤ most_refs) × FitsValue variable.value }
-    ensures { IfSome result (λ v. FitsVariable (declared v)) }
+    ensures fits { IfSome result (λ v. FitsVariable (declared v)) }
+    ensures same { FitsVariable (declared variable) → result ≡ Some variable }
 {
     if is_name(&variable.name) {
         Some(variable)
@@ -95,7 +99,9 @@ fn named(variable: Variable) -> Option<Variable>
 
 /// The variable that a value represents, if it has a name.
 fn variable_read(alloc: Global, json: &Json) -> Result<Option<Variable>, NoMemory>
-    ensures { IfOk result (λ o. IfSome o (λ v. FitsVariable (declared v))) }
+    ensures fits { IfOk result (λ o. IfSome o (λ v. FitsVariable (declared v))) }
+    ensures same { IfOk result (λ o. (d : Declared) → FitsVariable d
+        → variable_meant (view json.now) ≡ Some d → option_map declared o ≡ Some d) }
 {
     match variable_of(alloc, json)? {
         Some(variable) => Ok(named(variable)),
@@ -105,7 +111,7 @@ fn variable_read(alloc: Global, json: &Json) -> Result<Option<Variable>, NoMemor
 
 /// The variable that a line can be read as.
 pub fn loose_variable(alloc: Global, line: &[u8]) -> Result<Option<Variable>, NoMemory>
-    ensures { IfOk result (λ o. IfSome o (λ v. FitsVariable (declared v))) }
+    ensures { IfOk result (λ o. CanBeReadAs FitsVariable variable_line line.now (option_map declared o)) }
 {
     match json_of(alloc, line) {
         Ok(json) => variable_read(alloc, &json),

@@ -11,8 +11,7 @@ ghost use Rattle.stm_event_lines.specs.Fields.{event_of as event_meant, header_o
 ghost use Rattle.stm_terms.specs.Limits.{most_refs, max_clients};
 ghost use Rattle.stm_event_lines.specs.Fits.{Is32Bit, FitsNames, WhatFitsNames, FitsValue, FitsVariable, FitsVerdict, FitNumbers};
 ghost use Rattle.stm_event_lines.specs.Lines.{event_line, variable_line};
-ghost use Rattle.stm_event_lines.specs.ReadLines.{ReadsEvent, ReadsHeader, ReadsVariable};
-ghost use Rattle.stm_event_lines.specs.Variables.{declared};
+ghost use Rattle.stm_event_lines.specs.ReadLines.{ReadsEvent, ReadsHeader, ReadsVariable, declared};
 
 use crate::drafted::drafted_event;
 use crate::fields::{number_at, text_at, type_of, value_at};
@@ -325,8 +324,8 @@ fn read_by_value(
     }
 }
 
-/// Reads a line, exactly if it is the text of an event that fits the names. A block whose text comes again is shared. The names come
-/// after those that were known before.
+/// Reads a line, exactly if it is the text of an event that fits the names. The names come after those that were known before. A block
+/// whose text comes again is shared, which no clause says.
 pub fn read_event(
     alloc: Global,
     known: &Names,

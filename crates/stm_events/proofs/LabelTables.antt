@@ -4,7 +4,7 @@ use Rattle.std.specs.Prelude.{nat_eq, unwrap_or}
 use Rattle.std.specs.Map.{lookup}
 use Rattle.std.proofs.lemmas.Bool.Decides.{nat_tests}
 use Rattle.stm_events.specs.declared.kept_cause.KeptCause.{KeptCause}
-use Rattle.stm_events.specs.KeptCauses.{KeptCauses, kept_cause_of}
+use Rattle.stm_events.specs.KeptCauses.{KeptCauses, kept_cause_of, with_cause, AreSameCauses}
 use Rattle.stm_events.specs.Labels.{Labels, label_of, without_label, labelled, AreSameLabels}
 use Rattle.stm_events.proofs.Labelling.{label-without, label-labelled}
 
@@ -43,6 +43,8 @@ pub cause-lookup : (t : ℕ) (cs : KeptCauses) → lookup (nat_eq t) cs ≡ kept
 cause-lookup t [] = refl
 cause-lookup t (c ∷ cs) = ap (cond (nat_eq t c.0) (Some c.1)) (cause-lookup t cs)
 
--- a map with one more has its cause
-pub cause_put : (t u : ℕ) (cause : KeptCause) (old new : KeptCauses) → lookup (nat_eq u) new ≡ cond (nat_eq t u) (Some cause) (lookup (nat_eq u) old) → kept_cause_of u new ≡ cond (nat_eq t u) (Some cause) (kept_cause_of u old)
-cause_put t u cause old new h = sym (cause-lookup u new) ∙ h ∙ ap (cond (nat_eq t u) (Some cause)) (cause-lookup u old)
+-- a map with one more has the causes with it
+pub cause_put : (t : ℕ) (cause : KeptCause) (old new : KeptCauses) → ((u : ℕ) → lookup (nat_eq u) new ≡ cond (nat_eq t u) (Some cause) (lookup (nat_eq u) old)) → AreSameCauses new (with_cause t cause old)
+cause_put t cause old new h = λ u.
+    sym (cause-lookup u new) ∙ h u ∙ ap (cond (nat_eq t u) (Some cause)) (cause-lookup u old)
+    ∙ ap (λ (b : Bool). cond b (Some cause) (kept_cause_of u old)) (turned t u)

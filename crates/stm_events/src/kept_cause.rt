@@ -1,8 +1,8 @@
 //! Why blocks are stale, as a checkpoint keeps it.
 
-ghost use Rattle.std.specs.Prelude.{◌≡◌, [], Some, IfOk, OnOk, OnErr, if◌then◌else◌, nat_eq, ℕ};
+ghost use Rattle.std.specs.Prelude.{◌≡◌, [], IfOk, OnOk, OnErr};
 ghost use Rattle.std.specs.Option.{option_copied};
-ghost use Rattle.stm_events.specs.KeptCauses.{kept_cause_of};
+ghost use Rattle.stm_events.specs.KeptCauses.{kept_cause_of, with_cause, AreSameCauses};
 
 use std::alloc::Global;
 use std::collections::HashMap;
@@ -66,8 +66,7 @@ impl CauseTable {
 
     /// The block of a ticket gets a cause, in place of the one that it had.
     pub fn set(&mut self, ticket: u32, cause: KeptCause) -> Result<(), NoMemory>
-        ensures done { OnOk result ((t : ℕ) → kept_cause_of t self.new
-            ≡ if nat_eq ticket t then Some cause else kept_cause_of t self.old) }
+        ensures done { OnOk result (AreSameCauses self.new (with_cause ticket cause self.old)) }
         ensures unchanged { OnErr result (self.new ≡ self.old) }
     {
         let Ok(_before) = self.causes.insert(ticket, cause) else {

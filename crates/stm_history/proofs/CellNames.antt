@@ -17,7 +17,7 @@ use Rattle.stm_store.proofs.Typed.{kinds-left}
 use Rattle.stm_event_lines.specs.CheckpointLines.{FitsCell, FitsName, cell_line}
 use Rattle.stm_event_lines.proofs.Checkpoints.{cell_one_line, cell_same}
 use Rattle.stm_history_text.proofs.TextInParts.{lines-append}
-use Rattle.stm_history.specs.Checking.{AreCells, MayBeNamed, with_name_of}
+use Rattle.stm_history.specs.Progress.{AreCells, MayBeNamed, with_name_of}
 use Rattle.stm_history_text.specs.HistoryText.{cell_lines, cell_lines_from}
 use Rattle.stm_history.specs.Judgement.{FitCells}
 use Rattle.stm_history.proofs.CutsAtLineFeeds.{cut_unique, no_feed}

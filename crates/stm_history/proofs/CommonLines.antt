@@ -8,7 +8,7 @@ use Rattle.stm_machine.specs.declared.checkpoint.CheckpointBlock.{CheckpointBloc
 use Rattle.stm_machine.specs.Checkpoints.{CheckpointView, AreCheckpointBlocks, IsCheckpoint, MayAdd}
 use Rattle.stm_event_lines.specs.CheckpointLines.{cell_line, checkpoint_format}
 use Rattle.stm_event_lines.proofs.Checkpoints.{waiting_one_line}
-use Rattle.stm_history.specs.Checking.{AreCells, MayBeNamed, MayTakeBlock, MayTakeCell}
+use Rattle.stm_history.specs.Progress.{AreCells, MayBeNamed, MayTakeBlock, MayTakeCell}
 use Rattle.stm_history_text.specs.HistoryText.{block_line, block_lines, cell_lines, cell_lines_from}
 use Rattle.stm_history.specs.Judgement.{FitBlocks, FitCells, HaveShortLines, IsReadable, IsShort}
 use Rattle.stm_history_text.specs.Starts.{are_plain_blocks, delivery_of_block, is_plain_block}
@@ -154,4 +154,4 @@ next_block format c d a b r s stores names nexts l e =
     let whole : d.blocks ≡ c.blocks ++ g.blocks = g.whole in
     let same : d ≡ record c { blocks = c.blocks ++ g.blocks } = λ i. record { store = (sym stores) i; names = (sym names) i; next = (sym nexts) i; blocks = whole i } in
     let long = ap (λ (z : List CheckpointBlock). length z) whole ∙ length-append c.blocks g.blocks in
-    block_by format c g.blocks a b (λ is. ap are_plain_blocks (sym whole) ∙ s.plain is) (subst IsCheckpoint same k) (subst (FitBlocks c.names) whole fits) (subst HaveShortLines whole s.short) (omega (arith, l, long)) g.rest
+    block_by format c g.blocks a b (λ is. ap are_plain_blocks (sym whole) ∙ s.format_fits.2 is) (subst IsCheckpoint same k) (subst (FitBlocks c.names) whole fits) (subst HaveShortLines whole s.short) (omega (arith, l, long)) g.rest

@@ -1,6 +1,6 @@
 -- Bytes are cut at line feeds in one way.
 use Rattle.std.proofs.Common.{◌≡◌, ℕ, suc, ◌<◌, List, [], ◌∷◌, ◌++◌, length, refl, sym, ap, ◌∙◌, arith}
-use Rattle.stm_history.specs.Checking.{NoFeed}
+use Rattle.stm_history.specs.Progress.{NoFeed}
 use Rattle.stm_event_lines.specs.Fits.{IsOneLine}
 
 abbrev head : List ℕ → ℕ

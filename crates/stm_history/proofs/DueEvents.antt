@@ -27,7 +27,7 @@ use Rattle.stm_history.specs.declared.expecting.Expectation.{Expectation}
 use Rattle.stm_history.specs.declared.expecting.Expectation.TheVariants.{Due, Refuses}
 use Rattle.stm_history.specs.declared.replayer.Replayer.{Replayer}
 use Rattle.stm_history.specs.Expecting.{IsDueOn, IsDueAfter}
-use Rattle.stm_history.specs.Explanation.{deliver_first, deliver_refused, is_history_full}
+use Rattle.stm_history.specs.Explanation.{submission, delivery, declaration, labelling, deliver_first, deliver_refused, is_history_full}
 use Rattle.stm_history.specs.Following.{Follows}
 use Rattle.stm_history_text.specs.Starts.{Start, first_state, state_after_start}
 use Rattle.stm_history.proofs.ExpectedEvents.{due_by}
@@ -67,7 +67,7 @@ label_waits text (Some w) h e = e
 pub label_due : (s : Slow) (full : Bool) (t : ℕ) (text given : List ℕ) → full ≡ false → given ≡ text → is_label text ≡ true → label_refused s false t ≡ None
     → IsDueOn s full (Labelled t text) (Due (Labelled t given))
 label_due s full t text given f g e h =
-    (f, (refl, sym g), subst (λ (x : List ℕ). Allows s (Labelled t x)) (sym g) (label_waits text (find_waiter t s.waiters) h e))
+    (f, ap (λ (x : List ℕ). labelling t x) (sym g), subst (λ (x : List ℕ). Allows s (Labelled t x)) (sym g) (label_waits text (find_waiter t s.waiters) h e))
 
 -- ---- a delivery of what the block does on the present store
 -- it is refused only because its block is current
@@ -106,14 +106,14 @@ refused_due (Err y) reason P e h = tt
 
 -- a submission under the ticket that it gets
 pub submit_due : (s : Slow) (t u : ℕ) (asked held given : Block) → held ≡ asked → given ≡ asked → Allows s (Submitted u held) → IsDueOn s false (Submitted t asked) (Due (Submitted u given))
-submit_due s t u asked held given h g a = (refl, sym g, subst (λ (b : Block). Allows s (Submitted u b)) (h ∙ sym g) a)
+submit_due s t u asked held given h g a = (refl, ap submission (sym g), subst (λ (b : Block). Allows s (Submitted u b)) (h ∙ sym g) a)
 
 -- the delivery of a verdict under the ticket that it is for
 pub deliver_due : (s : Slow) (t u : ℕ) (asked brought given : Verdict) → u ≡ t → given ≡ brought → Allows s (Installed t brought) → IsDueOn s false (Installed t asked) (Due (Installed u given))
-deliver_due s t u asked brought given same g a = (refl, sym same, subst (λ (v : Verdict). Allows s (Installed u v)) (sym g) (subst (λ (n : ℕ). Allows s (Installed n brought)) (sym same) a))
+deliver_due s t u asked brought given same g a = (refl, ap delivery (sym same), subst (λ (v : Verdict). Allows s (Installed u v)) (sym g) (subst (λ (n : ℕ). Allows s (Installed n brought)) (sym same) a))
 
 -- the declaration that was asked for
 pub declare_due : (s : Slow) (full : Bool) (name given : List ℕ) (kind : Ty) (value : Value) → full ≡ false → given ≡ name → IsTrue (is_name_text name) → late_declare_refused s false name kind value ≡ None
     → IsDueOn s full (DeclaredLate name kind value) (Due (DeclaredLate given kind value))
 declare_due s full name given kind value f g n e =
-    (f, (sym g, refl, refl), subst (λ (x : List ℕ). Allows s (DeclaredLate x kind value)) (sym g) (may_declare s name kind value n e))
+    (f, ap (λ (x : List ℕ). declaration x kind value) (sym g), subst (λ (x : List ℕ). Allows s (DeclaredLate x kind value)) (sym g) (may_declare s name kind value n e))

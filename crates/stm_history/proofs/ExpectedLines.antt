@@ -5,7 +5,7 @@ use Rattle.stm_machine.specs.Machine.{event}
 use Rattle.stm_history_text.specs.Starts.{Start, names_after}
 use Rattle.stm_history.specs.declared.explanation.Explanation.{Explanation}
 use Rattle.stm_history.specs.declared.explanation.Explanation.TheVariants.{Expected, Refused, Unreadable}
-use Rattle.stm_history.specs.Checking.{CheckerState, at_header, at_variables, at_cells, at_blocks, at_events, LeadsTo}
+use Rattle.stm_history.specs.Progress.{CheckerState, at_header, at_variables, at_cells, at_blocks, at_events, LeadsTo}
 use Rattle.stm_history.specs.Explanation.{CanStand, Explains, ExplainsEvent, ExplainsHead, ExpectedLeadsOn, IsExpectedText}
 use Rattle.stm_history.specs.Judgement.{IsShort}
 use Rattle.stm_event_lines.specs.Lines.{event_line}

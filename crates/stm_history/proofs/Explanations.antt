@@ -22,9 +22,9 @@ use Rattle.stm_history.specs.declared.expecting.Expectation.{Expectation}
 use Rattle.stm_history.specs.declared.expecting.Expectation.TheVariants.{Due}
 use Rattle.stm_history.specs.declared.explanation.Explanation.{Explanation}
 use Rattle.stm_history.specs.declared.explanation.Explanation.TheVariants.{Expected, Refused, Unreadable}
-use Rattle.stm_history.specs.Checking.{CheckerState, at_variables, at_cells, at_blocks, at_events, with_table, with_cells, with_blocks, with_name_of, LeadsTo, MayTakeCell}
+use Rattle.stm_history.specs.Progress.{CheckerState, at_variables, at_cells, at_blocks, at_events, with_table, with_cells, with_blocks, with_name_of, LeadsTo, MayTakeCell}
 use Rattle.stm_history.specs.Expecting.{HasCheckedBlock, IsDueAfter, IsLineOf, IsShortOr}
-use Rattle.stm_history.specs.Explanation.{Explains, ExplainsEvent, ExplainsHead, IsCallDue, IsSameCall}
+use Rattle.stm_history.specs.Explanation.{Call, submission, delivery, finish, cancellation, declaration, labelling, Explains, ExplainsEvent, ExplainsHead, IsCallDue, IsSameCall, call_of}
 use Rattle.stm_event_lines.specs.Fits.{FitsNames, FitsFormat, FitsVariable, WhatFitsNames}
 use Rattle.stm_history.specs.Judgement.{IsShort}
 use Rattle.stm_event_lines.specs.CheckpointLines.{FitsWaiting, cell_line, checkpoint_format, waiting_line}
@@ -77,43 +77,35 @@ explained_at (Ok x) P q line h f = λ p i. subst (λ (y : CheckerState). Explain
 explained_at (Err e) P q line h f = tt
 
 -- ---- an event
+-- a block that a call submits is what its text checks to over the names
+abbrev IsCheckedCall : List Named → Call → Type 0
+IsCheckedCall names (submission b) = compiled_block names b.text ≡ Ok b
+IsCheckedCall names (delivery t) = Unit {0}
+IsCheckedCall names (finish t) = Unit {0}
+IsCheckedCall names (cancellation t) = Unit {0}
+IsCheckedCall names (declaration name kind value) = Unit {0}
+IsCheckedCall names (labelling t label) = Unit {0}
+
+call_fits : (names : List Named) (a : What) → WhatFitsNames names a → IsCheckedCall names (call_of a)
+call_fits names (Submitted t b) f = f.1
+call_fits names (Installed t v) f = tt
+call_fits names (Finished t v n stale) f = tt
+call_fits names (Cancelled t) f = tt
+call_fits names (DeclaredLate name kind value) f = tt
+call_fits names (Labelled t label) f = tt
+
+checked_by_call : (names : List Named) (b : What) → IsCheckedCall names (call_of b) → HasCheckedBlock names b
+checked_by_call names (Submitted t b) h = h
+checked_by_call names (Installed t v) h = tt
+checked_by_call names (Finished t v n stale) h = tt
+checked_by_call names (Cancelled t) h = tt
+checked_by_call names (DeclaredLate name kind value) h = tt
+checked_by_call names (Labelled t label) h = tt
+
 pub checked_same : (names : List Named) (a b : What) → WhatFitsNames names a → IsSameCall a b → HasCheckedBlock names b
-checked_same names (Submitted t b) (Submitted u c) f e = subst (λ (x : Block). compiled_block names x.text ≡ Ok x) e f.1
-checked_same names (Submitted t b) (Installed u w) f e = tt
-checked_same names (Submitted t b) (Finished u w m k) f e = tt
-checked_same names (Submitted t b) (Cancelled u) f e = tt
-checked_same names (Submitted t b) (DeclaredLate other type first) f e = tt
-checked_same names (Submitted t b) (Labelled u other) f e = tt
-checked_same names (Installed t v) (Submitted u c) f e = absurd e
-checked_same names (Installed t v) (Installed u w) f e = tt
-checked_same names (Installed t v) (Finished u w m k) f e = tt
-checked_same names (Installed t v) (Cancelled u) f e = tt
-checked_same names (Installed t v) (DeclaredLate other type first) f e = tt
-checked_same names (Installed t v) (Labelled u other) f e = tt
-checked_same names (Finished t v n stale) (Submitted u c) f e = absurd e
-checked_same names (Finished t v n stale) (Installed u w) f e = tt
-checked_same names (Finished t v n stale) (Finished u w m k) f e = tt
-checked_same names (Finished t v n stale) (Cancelled u) f e = tt
-checked_same names (Finished t v n stale) (DeclaredLate other type first) f e = tt
-checked_same names (Finished t v n stale) (Labelled u other) f e = tt
-checked_same names (Cancelled t) (Submitted u c) f e = absurd e
-checked_same names (Cancelled t) (Installed u w) f e = tt
-checked_same names (Cancelled t) (Finished u w m k) f e = tt
-checked_same names (Cancelled t) (Cancelled u) f e = tt
-checked_same names (Cancelled t) (DeclaredLate other type first) f e = tt
-checked_same names (Cancelled t) (Labelled u other) f e = tt
-checked_same names (DeclaredLate name kind value) (Submitted u c) f e = absurd e
-checked_same names (DeclaredLate name kind value) (Installed u w) f e = tt
-checked_same names (DeclaredLate name kind value) (Finished u w m k) f e = tt
-checked_same names (DeclaredLate name kind value) (Cancelled u) f e = tt
-checked_same names (DeclaredLate name kind value) (DeclaredLate other type first) f e = tt
-checked_same names (DeclaredLate name kind value) (Labelled u other) f e = tt
-checked_same names (Labelled t label) (Submitted u c) f e = absurd e
-checked_same names (Labelled t label) (Installed u w) f e = tt
-checked_same names (Labelled t label) (Finished u w m k) f e = tt
-checked_same names (Labelled t label) (Cancelled u) f e = tt
-checked_same names (Labelled t label) (DeclaredLate other type first) f e = tt
-checked_same names (Labelled t label) (Labelled u other) f e = tt
+checked_same names a b f e =
+    let same : call_of a ≡ call_of b = e in
+    checked_by_call names b (subst (λ (x : Call). IsCheckedCall names x) same (call_fits names a f))
 
 pub explains_due : (start : Start) (history : List Event) (e : Event) (what : What) (x : Explanation) → IsCallDue start history e what → IsLineOf start.format (names_after start history) (event e.client what) x → ExplainsEvent start history e x
 explains_due start history e what (Expected text) d l = (what, d, l.0, l.1)

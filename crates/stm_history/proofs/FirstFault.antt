@@ -128,5 +128,8 @@ later_taken bytes s H f a k =
     taken_by k.start H k.history k.rest f b.events (subst (λ (z : Start). IsLegalFrom (first_state z) H) b.starts a.legal) k.fault
 
 pub histories_are_taken : HistoriesAreTaken
-histories_are_taken bytes n k a =
-    (header_by bytes a.0 a.1 [] a.2, (λ t. later_taken bytes a.0 a.1 (BadLine k) a.2 (later_bad bytes k t)), (λ t. later_taken bytes a.0 a.1 (NotLegal k) a.2 (later_illegal bytes k t)))
+histories_are_taken bytes n ReadFault a h t = absurd h
+histories_are_taken bytes n BadHeader a h t = header_by bytes a.0 a.1 [] a.2 t
+histories_are_taken bytes n (BadLine k) a h t = later_taken bytes a.0 a.1 (BadLine k) a.2 (later_bad bytes k t)
+histories_are_taken bytes n (NotLegal k) a h t = later_taken bytes a.0 a.1 (NotLegal k) a.2 (later_illegal bytes k t)
+histories_are_taken bytes n NoMemory a h t = absurd h

@@ -5,7 +5,7 @@ use Rattle.std.proofs.lemmas.List.{take-append-drop, get_or-take, length-take}
 use Rattle.std.proofs.lemmas.List.Elements.{All-from_get_or, All-head, All-tail}
 use Rattle.std.specs.List.{All}
 use Rattle.memchr.specs.Find.{IsFirstByte, is_byte}
-use Rattle.stm_history.specs.Checking.{NoFeed}
+use Rattle.stm_history.specs.Progress.{NoFeed}
 
 each : (bytes : List ℕ) → All (λ b. b ≢ 10) bytes → NoFeed bytes
 each [] h = tt

@@ -13,7 +13,7 @@ use Rattle.stm_machine.specs.Checkpoints.{CheckpointView, started_by}
 use Rattle.stm_event_lines.specs.CheckpointLines.{FitsName, IsCheckpointFormat, cell_line, checkpoint_format, checkpoint_header_line}
 use Rattle.stm_event_lines.specs.Lines.{declaring_format, rule_of}
 use Rattle.stm_event_lines.proofs.Checkpoints.{cell_one_line, checkpoint_header_one_line, waiting_one_line}
-use Rattle.stm_history.specs.Checking.{NoFeed}
+use Rattle.stm_history.specs.Progress.{NoFeed}
 use Rattle.stm_history.specs.FileLaws.{WhatIsKeptIsTaken, WrittenFormatsFit}
 use Rattle.stm_history_text.specs.HistoryText.{block_line, block_lines, cell_lines, cell_lines_from, checkpoint_text, event_lines, text_before}
 use Rattle.stm_history.specs.Judgement.{AreEvents, AreShortLines, CheckpointFits, FitBlocks, FitCells, FitsBefore, FormatFits, HaveShortLines, IsBefore, are_short_after, max_line}
@@ -99,7 +99,7 @@ written_fits table o history = format_by o (declares history || labels_blocks hi
 -- ---- the history that is read
 before_back : (format : ℕ) (table : List Declared) (o : Option CheckpointView) → FormatFits format o → FitsBefore table o → AreShortLines (text_before format table o) → IsBefore format (table_back table o) o
 before_back format table None k f e = (k, few_variables table f, f)
-before_back format table (Some c) k f e = (refl, record { is_format = k.0; gapless = k.1; plain = k.2; fits = f; short = short_checkpoint format c k.0 f e })
+before_back format table (Some c) k f e = (refl, record { format_fits = k; fits = f; short = short_checkpoint format c k.0 f e })
 
 pub what_is_kept_is_taken : WhatIsKeptIsTaken
 what_is_kept_is_taken s history format fits short events legal =

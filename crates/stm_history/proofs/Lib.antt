@@ -11,6 +11,7 @@ pub mod Explanations
 pub mod FirstFault
 pub mod FirstLines
 pub mod HistoryLabels
+pub mod JudgedBytes
 pub mod KeptIsTaken
 pub mod LineByLine
 pub mod OneLineMore

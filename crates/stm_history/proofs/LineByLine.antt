@@ -8,7 +8,8 @@ use Rattle.stm_lines.specs.TakenLines.{TakesPartOfLine, TakesLastLine, TakesWhol
 use Rattle.stm_history.specs.declared.check.Stage.{Stage}
 use Rattle.stm_history.specs.declared.fault.HistoryFault.{HistoryFault}
 use Rattle.stm_history.specs.declared.fault.HistoryFault.TheVariants.{ReadFault, NoMemory, BadHeader, BadLine, NotLegal}
-use Rattle.stm_history.specs.Checking.{CheckerState, MayRefuse, NoFeed, StopsAt, strange}
+use Rattle.stm_history.specs.Checking.{MayRefuse, StopsAt}
+use Rattle.stm_history.specs.Progress.{CheckerState, NoFeed, strange}
 use Rattle.stm_history.specs.Judgement.{IsShort, ReportsFault, max_line}
 use Rattle.stm_history.specs.Reading.{FailsIn, IsReadingFault, TakesLine, TakesRest}
 use Rattle.stm_history.specs.Stages.{IsStage, LeadsToStage, Reached}

@@ -17,7 +17,7 @@ use Rattle.stm_event_lines.specs.Fits.{FitsNames, FitsFormat}
 use Rattle.stm_event_lines.specs.Lines.{IsFormat, event_line, header_line, variable_line}
 use Rattle.stm_history_text.specs.HistoryText.{block_line, block_lines, cell_lines, cells_text, checkpoint_text, head_text, history_text, start_text, variable_lines, event_lines}
 use Rattle.stm_history.specs.Judgement.{IsShort, MayDeclare, AreVariables, AreVariablesFrom, AreEvents, FitBlocks, HaveShortLines, IsReadable}
-use Rattle.stm_history.specs.Checking.{CheckerState, at_header, at_variables, at_cells, at_blocks, at_events, with_table, with_blocks, with_cells, with_name_of, AreCells, IsCheckpointHead, LeadsTo, LinesUpTo}
+use Rattle.stm_history.specs.Progress.{CheckerState, at_header, at_variables, at_cells, at_blocks, at_events, with_table, with_blocks, with_cells, with_name_of, AreCells, IsCheckpointHead, LeadsTo, LinesUpTo}
 use Rattle.stm_history_text.specs.Starts.{are_plain_blocks, delivery_of_block, first_state, is_plain_block}
 use Rattle.stm_history.proofs.CellNames.{cells_push, lines_push}
 
@@ -105,9 +105,7 @@ with_blocks-lines format waiting c text e r few small =
 pub no_blocks_yet : (format next vars waiting : ℕ) (names : List Named) (cells : List Cell) → IsCheckpointFormat format → IsCheckpointHead next vars waiting → AreCells format names cells → IsStore (plains cells)
     → IsReadable format (record { store = cells; names = names; next = next; blocks = [] })
 no_blocks_yet format next vars waiting names cells i h a s = record {
-  is_format = i;
-  gapless = a.gapless;
-  plain = λ is. refl;
+  format_fits = (i, a.gapless, λ is. refl);
   fits = record {
     checkpoint = record { begun = h.begun; tickets = h.tickets; store = s; named = a.named; few = omega arith; blocks = tt };
     known = a.known;
@@ -170,9 +168,7 @@ block_led format waiting c t text line s k short =
     ∙ append_assoc (cells_text format c.next (length c.store) waiting c.names c.store) (block_lines c.blocks) (block_line b ++ 10 ∷ [])
     ∙ ap (λ x. cells_text format c.next (length c.store) waiting c.names c.store ++ x) (sym (block_lines-push c.blocks b)))
     (record {
-      is_format = r.is_format;
-      gapless = r.gapless;
-      plain = λ is. plain_push c.blocks b (r.plain is) ((k.2).2 is);
+      format_fits = (r.format_fits.0, r.format_fits.1, λ is. plain_push c.blocks b (r.format_fits.2 is) ((k.2).2 is));
       fits = record { checkpoint = (k.2).1; known = f.known; cells = f.cells; blocks = blocks_push c.names c.blocks b f.blocks (k.2).0 };
       short = short_push c.blocks b r.short (subst IsShort (sym k.1) short);
     })

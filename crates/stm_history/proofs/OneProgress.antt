@@ -11,7 +11,7 @@ use Rattle.stm_event_lines.specs.Lines.{IsFormat, header_line, variable_line}
 use Rattle.stm_event_lines.proofs.ReadsBack.{header_same}
 use Rattle.stm_history_text.specs.HistoryText.{block_line, block_lines, cell_lines, cell_lines_from, checkpoint_text, event_lines, variable_lines}
 use Rattle.stm_history.specs.Judgement.{AreVariables, FitBlocks, IsReadable}
-use Rattle.stm_history.specs.Checking.{CheckerState, at_header, at_variables, at_cells, at_blocks, at_events, AreCells, LinesUpTo}
+use Rattle.stm_history.specs.Progress.{CheckerState, at_header, at_variables, at_cells, at_blocks, at_events, AreCells, LinesUpTo}
 use Rattle.stm_history_text.specs.Starts.{Start}
 use Rattle.stm_history.proofs.CellNames.{cells as one_cells, common_cells}
 use Rattle.stm_history.proofs.CommonLines.{next_block, next_cell}
@@ -79,7 +79,7 @@ blocks_flat format w c = append_assoc (checkpoint_header_line format c.next (len
 
 variables_or_blocks : (format n other waiting : ℕ) (T : List Declared) (c : CheckpointView) (text : List ℕ) → LinesUpTo (at_variables format n T) text → LinesUpTo (at_blocks other waiting c) text → ⊥
 variables_or_blocks format n other waiting T c text h k =
-    other_head format n other c.next (length c.store) waiting (variable_lines T) (cell_lines c.names c.store ++ block_lines c.blocks) h.0 h.4 (k.1).is_format (head_of other c waiting k.1 k.3) (sym h.1 ∙ k.0 ∙ blocks_flat other waiting c)
+    other_head format n other c.next (length c.store) waiting (variable_lines T) (cell_lines c.names c.store ++ block_lines c.blocks) h.0 h.4 (k.1).format_fits.0 (head_of other c waiting k.1 k.3) (sym h.1 ∙ k.0 ∙ blocks_flat other waiting c)
 
 -- ---- two checkpoints
 -- fewer variables have fewer lines
@@ -123,7 +123,7 @@ same_at_cells p q next next' vars vars' waiting waiting' T U cs ds text h k =
 
 cells_or_blocks : (p q next vars waiting waiting' : ℕ) (T : List Named) (cs : List Cell) (c : CheckpointView) (text : List ℕ) → LinesUpTo (at_cells p next vars waiting T cs) text → LinesUpTo (at_blocks q waiting' c) text → ⊥
 cells_or_blocks p q next vars waiting waiting' T cs c text h k =
-    let s = same_checkpoint_head p q next c.next vars (length c.store) waiting waiting' (cell_lines T cs) (cell_lines c.names c.store ++ block_lines c.blocks) h.4 (k.1).is_format h.0 (head_of q c waiting' k.1 k.3) (sym h.1 ∙ k.0 ∙ blocks_flat q waiting' c) in
+    let s = same_checkpoint_head p q next c.next vars (length c.store) waiting waiting' (cell_lines T cs) (cell_lines c.names c.store ++ block_lines c.blocks) h.4 (k.1).format_fits.0 h.0 (head_of q c waiting' k.1 k.3) (sym h.1 ∙ k.0 ∙ blocks_flat q waiting' c) in
     let same : vars ≡ length c.store = s.vars in
     let g = next_cell p T cs c [] (block_lines c.blocks) h.2 (subst (λ (f : ℕ). IsReadable f c) (sym s.formats) k.1) (omega (arith, same, h.3)) (append-nil (cell_lines T cs) ∙ s.rest) in
     line_there (cell_line g.name g.cell) g.more (sym g.rest)
@@ -150,7 +150,7 @@ same_blocks format c d r s stores names nexts e (inr (inr l)) = even_blocks form
 same_at_blocks : (p q waiting waiting' : ℕ) (c d : CheckpointView) (text : List ℕ) → LinesUpTo (at_blocks p waiting c) text → LinesUpTo (at_blocks q waiting' d) text → at_blocks p waiting c ≡ at_blocks q waiting' d
 same_at_blocks p q waiting waiting' c d text h k =
     let s = same_checkpoint_head p q c.next d.next (length c.store) (length d.store) waiting waiting' (cell_lines c.names c.store ++ block_lines c.blocks) (cell_lines d.names d.store ++ block_lines d.blocks)
-    (h.1).is_format (k.1).is_format (head_of p c waiting h.1 h.3) (head_of q d waiting' k.1 k.3) (sym (blocks_flat p waiting c) ∙ sym h.0 ∙ k.0 ∙ blocks_flat q waiting' d) in
+    (h.1).format_fits.0 (k.1).format_fits.0 (head_of p c waiting h.1 h.3) (head_of q d waiting' k.1 k.3) (sym (blocks_flat p waiting c) ∙ sym h.0 ∙ k.0 ∙ blocks_flat q waiting' d) in
     let r = same_store p q c d (block_lines c.blocks) (block_lines d.blocks) h.1 k.1 s.vars s.rest in
     let formats : p ≡ q = s.formats in
     let nexts : c.next ≡ d.next = s.next in

@@ -22,7 +22,7 @@ use Rattle.stm_event_lines.specs.Lines.{IsFormat, event_line, header_line, varia
 use Rattle.stm_event_lines.proofs.Checkpoints.{checkpoint_header_new, checkpoint_header_one_line, checkpoint_header_same, waiting_one_line, waiting_same}
 use Rattle.stm_event_lines.proofs.ReadsBack.{event_one_line, header_one_line, variable_one_line, header_same, variable_same, event_same}
 use Rattle.stm_history.specs.declared.fault.HistoryFault.TheVariants.{BadHeader}
-use Rattle.stm_history.specs.Checking.{AreCells}
+use Rattle.stm_history.specs.Progress.{AreCells}
 use Rattle.stm_history_text.specs.HistoryText.{block_line, block_lines, cell_lines, cells_text, checkpoint_text, event_lines, head_text, history_text, start_text, text_before, variable_lines}
 use Rattle.stm_history.specs.Judgement.{IsShort, AreVariables, AreVariablesFrom, AreEvents, BeginsWithHistory, FitBlocks, IsBefore, IsReadable, IsStart, NoEventNext, IsIllegalFrom, ReportsFault, numbers_from}
 use Rattle.stm_history.specs.FileLaws.{NumbersAreFixed, TextsAreOfOneHistory}
@@ -140,7 +140,7 @@ flat format w c a =
 
 -- its variables are those that its lines may have
 pub cells_of : (format : ℕ) (c : CheckpointView) → IsReadable format c → AreCells format c.names c.store
-cells_of format c r = record { known = (r.fits).known; named = ((r.fits).checkpoint).named; gapless = r.gapless; fit = (r.fits).cells }
+cells_of format c r = record { known = (r.fits).known; named = ((r.fits).checkpoint).named; gapless = r.format_fits.1; fit = (r.fits).cells }
 
 pub record IsOneCheckpoint (p q : ℕ) (c d : CheckpointView) (a b : List ℕ) : Type 0 where
   pub formats : p ≡ q
@@ -156,10 +156,10 @@ one_checkpoint p q c d a b f g e =
     let k = head_fits d n in
     let cut = cut_unique (checkpoint_header_line p c.next (length c.store) (length c.blocks)) (cell_lines c.names c.store ++ (block_lines c.blocks ++ a))
     (checkpoint_header_line q d.next (length d.store) (length d.blocks)) (cell_lines d.names d.store ++ (block_lines d.blocks ++ b))
-    (no_feed _ (checkpoint_header_one_line p c.next (length c.store) (length c.blocks) f.is_format h.next h.vars h.waiting))
-    (no_feed _ (checkpoint_header_one_line q d.next (length d.store) (length d.blocks) g.is_format k.next k.vars k.waiting))
+    (no_feed _ (checkpoint_header_one_line p c.next (length c.store) (length c.blocks) f.format_fits.0 h.next h.vars h.waiting))
+    (no_feed _ (checkpoint_header_one_line q d.next (length d.store) (length d.blocks) g.format_fits.0 k.next k.vars k.waiting))
     (sym (flat p (length c.blocks) c a) ∙ e ∙ flat q (length d.blocks) d b) in
-    let same = checkpoint_header_same p q c.next d.next (length c.store) (length d.store) (length c.blocks) (length d.blocks) f.is_format g.is_format h.next h.vars h.waiting k.next k.vars k.waiting cut.line in
+    let same = checkpoint_header_same p q c.next d.next (length c.store) (length d.store) (length c.blocks) (length d.blocks) f.format_fits.0 g.format_fits.0 h.next h.vars h.waiting k.next k.vars k.waiting cut.line in
     let first = cells p q c.names d.names c.store d.store (block_lines c.blocks ++ a) (block_lines d.blocks ++ b) (cells_of p c f) (cells_of q d g) same.2 cut.rest in
     let names : c.names ≡ d.names = first.names in
     let then = blocks d.names c.blocks d.blocks a b (subst (λ (V : List Named). FitBlocks V c.blocks) names (f.fits).blocks) (g.fits).blocks
@@ -183,9 +183,9 @@ no_checkpoint p q T d a b i f g e =
     let n : Is32Bit (length T) = omega (arith, few) in
     let k = head_fits d (g.fits).checkpoint in
     let cut = cut_unique (header_line p (length T)) (variable_lines T ++ a) (checkpoint_header_line q d.next (length d.store) (length d.blocks)) (cell_lines d.names d.store ++ (block_lines d.blocks ++ b))
-    (no_feed _ (header_one_line p (length T) i n)) (no_feed _ (checkpoint_header_one_line q d.next (length d.store) (length d.blocks) g.is_format k.next k.vars k.waiting))
+    (no_feed _ (header_one_line p (length T) i n)) (no_feed _ (checkpoint_header_one_line q d.next (length d.store) (length d.blocks) g.format_fits.0 k.next k.vars k.waiting))
     (sym (append_assoc (header_line p (length T)) (10 ∷ variable_lines T) a) ∙ e ∙ flat q (length d.blocks) d b) in
-    checkpoint_header_new q d.next (length d.store) (length d.blocks) p (length T) g.is_format k.next k.vars k.waiting i n (sym cut.line)
+    checkpoint_header_new q d.next (length d.store) (length d.blocks) p (length T) g.format_fits.0 k.next k.vars k.waiting i n (sym cut.line)
 
 start_by : (p q : ℕ) (T U : List Declared) (o r : Option CheckpointView) (a b : List ℕ) → IsBefore p T o → IsBefore q U r → text_before p T o ++ a ≡ text_before q U r ++ b
     → IsOneStart (record { format = p; table = T; checkpoint = o }) (record { format = q; table = U; checkpoint = r }) a b

@@ -27,7 +27,8 @@ use Rattle.stm_history.specs.declared.check.Stage.TheVariants.{Running}
 use Rattle.stm_history.specs.declared.fault.HistoryFault.{HistoryFault}
 use Rattle.stm_history.specs.declared.fault.HistoryFault.TheVariants.{BadHeader, BadLine, NoMemory}
 use Rattle.stm_history.specs.declared.replayer.Replayer.{Replayer}
-use Rattle.stm_history.specs.Checking.{CheckerState, at_header, at_variables, at_cells, at_blocks, at_events, with_blocks, with_cells, IsCheckpointHead, LeadsTo, LeadsToCells, LinesUpTo, MayBeNamed, MayRefuse, MayTakeBlock, strange}
+use Rattle.stm_history.specs.Checking.{MayRefuse}
+use Rattle.stm_history.specs.Progress.{CheckerState, at_header, at_variables, at_cells, at_blocks, at_events, with_blocks, with_cells, IsCheckpointHead, LeadsTo, LeadsToCells, LinesUpTo, MayBeNamed, MayTakeBlock, strange}
 use Rattle.stm_history.specs.Following.{Follows}
 use Rattle.stm_history.specs.Judgement.{IsBefore, next_line}
 use Rattle.stm_history.specs.Stages.{CountsWithinLimits, IsSmallStart, IsStage, LeadsToStage}

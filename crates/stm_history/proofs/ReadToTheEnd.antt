@@ -17,12 +17,12 @@ use Rattle.stm_machine.specs.Machine.{Parts, IsAt}
 use Rattle.stm_event_lines.specs.Lines.{rule_of}
 use Rattle.stm_history.specs.declared.check.Stage.TheVariants.{Running}
 use Rattle.stm_history.specs.declared.replayer.Replayer.{Replayer}
-use Rattle.stm_history.specs.Checking.{CheckerState, at_events, LinesUpTo}
+use Rattle.stm_history.specs.Progress.{CheckerState, at_events, LinesUpTo}
 use Rattle.stm_history.specs.Following.{Follows}
 use Rattle.stm_history.specs.Judgement.{AreEvents, FitBlocks, IsStart}
 use Rattle.stm_history.specs.Loading.{IsWholeHistory}
 use Rattle.stm_history.specs.Stages.{Reached}
-use Rattle.stm_history_text.specs.Starts.{AreOfText, BlocksAreOfText, IsLatest, Start, first_state}
+use Rattle.stm_history_text.specs.Starts.{AreOfText, BlocksAreOfText, GoesByPresentRule, Start, first_state}
 use Rattle.stm_event_lines.proofs.CheckedBlocks.{checked_are_well_typed}
 
 -- what holds of the bytes that were taken holds of the reader's, if those are known
@@ -45,7 +45,7 @@ events_typed format s (e ∷ es) f = (what_typed s.names e.what (f.0).1, events_
 
 -- ---- the start of what was read
 -- the present rule is that of the formats that are written, and of checkpoints
-pub first_is : (format : ℕ) (table : List Declared) (c : Option CheckpointView) → IsLatest format c → first_state (record { format = format; table = table; checkpoint = c }) ≡ start_of table c
+pub first_is : (format : ℕ) (table : List Declared) (c : Option CheckpointView) → GoesByPresentRule format c → first_state (record { format = format; table = table; checkpoint = c }) ≡ start_of table c
 first_is format table None (inl l) = ap (λ (f : ℕ). started_by (rule_of f) table None) l
 first_is format table None (inr l) = ap (λ (f : ℕ). started_by (rule_of f) table None) l
 first_is format table (Some c) l = refl
@@ -88,7 +88,7 @@ loaded_history format table c r whole line taken format' table' c' events h none
 
 -- the machine is at the state of the history
 pub loaded_at : (format : ℕ) (table : List Declared) (c : Option CheckpointView) (r : Replayer) (whole : ℕ) (line taken : List ℕ) (m : Parts) (table' : List Declared) (c' : Option CheckpointView) (events : List Event)
-    → Reached (Running format table c r) whole line taken → line ≡ [] → IsLatest format c → m ≡ r.machine → table' ≡ table → c' ≡ c
+    → Reached (Running format table c r) whole line taken → line ≡ [] → GoesByPresentRule format c → m ≡ r.machine → table' ≡ table → c' ≡ c
     → ((history : List Event) → IfSome r.kept (λ kept. kept.items ≡ history) → events ≡ history) → IsAt m (state_from (start_of table' c') events)
 loaded_at format table c r whole line taken m table' c' events h none latest machines tables checkpoints kept =
     let k = read_history format table c r whole line taken h none in

@@ -23,7 +23,8 @@ use Rattle.stm_history.specs.declared.fault.HistoryFault.{HistoryFault}
 use Rattle.stm_history.specs.declared.fault.HistoryFault.TheVariants.{ReadFault, BadHeader, NoMemory}
 use Rattle.stm_history.specs.declared.check.Stage.{Stage}
 use Rattle.stm_history.specs.declared.check.Stage.TheVariants.{Before, Declaring, AtCells, AtBlocks}
-use Rattle.stm_history.specs.Checking.{CheckerState, at_header, at_variables, at_cells, at_blocks, at_events, with_table, with_cells, with_blocks, with_name_of, IsCheckpointHead, LeadsTo, LeadsNowhere, LinesUpTo, MayTakeCell, NoLineNext, NoNext, NoFeed, IsStrange, strange, MayRefuse, HasTaken, IsFaultAt, StopsAt}
+use Rattle.stm_history.specs.Checking.{LeadsNowhere, IsStrange, MayRefuse, HasTaken, IsFaultAt, StopsAt}
+use Rattle.stm_history.specs.Progress.{CheckerState, at_header, at_variables, at_cells, at_blocks, at_events, with_table, with_cells, with_blocks, with_name_of, IsCheckpointHead, LeadsTo, LinesUpTo, MayTakeCell, NoLineNext, NoNext, NoFeed, strange}
 use Rattle.stm_history.specs.Stages.{IsStage, Reached, LeadsToStage}
 use Rattle.stm_history_text.specs.Starts.{Start, delivery_of_block, names_after}
 use Rattle.stm_history.proofs.CommonLines.{next_block, next_cell}
@@ -151,7 +152,7 @@ header_on format table None rest more b e = record {
 }
 header_on format table (Some c) rest more b e =
     let few = ((b.1).fits).checkpoint in
-    let i = (b.1).is_format in
+    let i = (b.1).format_fits.0 in
     let h = head_of format c (length c.blocks) b.1 few.few in
     record {
       line = checkpoint_header_line format c.next (length c.store) (length c.blocks);
@@ -181,7 +182,7 @@ variables_on format n table other names None whole rest more s b e =
     }
 variables_on format n table other names (Some c) whole rest more s b e =
     let few = ((b.1).fits).checkpoint in
-    absurd (other_head format n other c.next (length c.store) (length c.blocks) (variable_lines table ++ rest) (cell_lines c.names c.store ++ (block_lines c.blocks ++ more)) s.0 s.4 (b.1).is_format (head_of other c (length c.blocks) b.1 few.few)
+    absurd (other_head format n other c.next (length c.store) (length c.blocks) (variable_lines table ++ rest) (cell_lines c.names c.store ++ (block_lines c.blocks ++ more)) s.0 s.4 (b.1).format_fits.0 (head_of other c (length c.blocks) b.1 few.few)
     (sym (append_assoc (header_line format n) (10 ∷ variable_lines table) rest) ∙ ap (λ w. w ++ rest) (sym s.1) ∙ e ∙ flat_checkpoint other (length c.blocks) c more))
 
 -- among the variables of a checkpoint
@@ -192,7 +193,7 @@ cells_on format next vars waiting names cells other table None whole rest more s
     (sym (append_assoc (header_line other (length table)) (10 ∷ variable_lines table) more) ∙ sym e ∙ ap (λ w. w ++ rest) s.1 ∙ append_assoc (checkpoint_header_line format next vars waiting) (10 ∷ cell_lines names cells) rest))
 cells_on format next vars waiting names cells other table (Some c) whole rest more s b e =
     let few = ((b.1).fits).checkpoint in
-    let h = same_checkpoint_head format other next c.next vars (length c.store) waiting (length c.blocks) (cell_lines names cells ++ rest) (cell_lines c.names c.store ++ (block_lines c.blocks ++ more)) s.4 (b.1).is_format s.0
+    let h = same_checkpoint_head format other next c.next vars (length c.store) waiting (length c.blocks) (cell_lines names cells ++ rest) (cell_lines c.names c.store ++ (block_lines c.blocks ++ more)) s.4 (b.1).format_fits.0 s.0
     (head_of other c (length c.blocks) b.1 few.few)
     (sym (append_assoc (checkpoint_header_line format next vars waiting) (10 ∷ cell_lines names cells) rest) ∙ ap (λ w. w ++ rest) (sym s.1) ∙ e ∙ flat_checkpoint other (length c.blocks) c more) in
     let same : vars ≡ length c.store = h.vars in
@@ -221,12 +222,12 @@ same_store p q c d a b r s l e =
 blocks_on : (format waiting : ℕ) (c : CheckpointView) (other : ℕ) (table : List Declared) (o : Option CheckpointView) (whole rest more : List ℕ) → LinesUpTo (at_blocks format waiting c) whole → IsBefore other table o
     → whole ++ rest ≡ text_before other table o ++ more → GoesOn (at_blocks format waiting c) rest
 blocks_on format waiting c other table None whole rest more s b e =
-    absurd (other_head other (length table) format c.next (length c.store) waiting (variable_lines table ++ more) (cell_lines c.names c.store ++ (block_lines c.blocks ++ rest)) b.0 b.1 (s.1).is_format (head_of format c waiting s.1 s.3)
+    absurd (other_head other (length table) format c.next (length c.store) waiting (variable_lines table ++ more) (cell_lines c.names c.store ++ (block_lines c.blocks ++ rest)) b.0 b.1 (s.1).format_fits.0 (head_of format c waiting s.1 s.3)
     (sym (append_assoc (header_line other (length table)) (10 ∷ variable_lines table) more) ∙ sym e ∙ ap (λ w. w ++ rest) s.0 ∙ flat_checkpoint format waiting c rest))
 blocks_on format waiting c other table (Some d) whole rest more s b e =
     let few = ((b.1).fits).checkpoint in
     let h = same_checkpoint_head format other c.next d.next (length c.store) (length d.store) waiting (length d.blocks) (cell_lines c.names c.store ++ (block_lines c.blocks ++ rest)) (cell_lines d.names d.store ++ (block_lines d.blocks ++ more))
-    (s.1).is_format (b.1).is_format (head_of format c waiting s.1 s.3) (head_of other d (length d.blocks) b.1 few.few)
+    (s.1).format_fits.0 (b.1).format_fits.0 (head_of format c waiting s.1 s.3) (head_of other d (length d.blocks) b.1 few.few)
     (sym (flat_checkpoint format waiting c rest) ∙ ap (λ w. w ++ rest) (sym s.0) ∙ e ∙ flat_checkpoint other (length d.blocks) d more) in
     let k = same_store format other c d (block_lines c.blocks ++ rest) (block_lines d.blocks ++ more) s.1 b.1 h.vars h.rest in
     let same : waiting ≡ length d.blocks = h.waiting in

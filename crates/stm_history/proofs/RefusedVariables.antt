@@ -8,7 +8,8 @@ use Rattle.stm_store.specs.Tables.{Declared, declare_refusal}
 use Rattle.stm_event_lines.specs.Fits.{FitsVariable}
 use Rattle.stm_event_lines.specs.Lines.{variable_line}
 use Rattle.stm_event_lines.proofs.ReadsBack.{variable_same}
-use Rattle.stm_history.specs.Checking.{at_variables, IsStrange, MayRefuse}
+use Rattle.stm_history.specs.Checking.{IsStrange, MayRefuse}
+use Rattle.stm_history.specs.Progress.{at_variables}
 use Rattle.stm_history.specs.Stages.{refused_by}
 
 -- a line of a variable that the table refuses is none of one that it takes

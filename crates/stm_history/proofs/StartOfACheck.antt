@@ -1,7 +1,7 @@
 -- A check that has taken nothing yet.
 use Rattle.std.proofs.Common.{◌≡◌, ℕ, Bool, List, [], refl, sym, subst, arith}
 use Rattle.stm_history.specs.declared.check.Stage.TheVariants.{Before}
-use Rattle.stm_history.specs.Checking.{at_header}
+use Rattle.stm_history.specs.Progress.{at_header}
 use Rattle.stm_history.specs.Stages.{Reached}
 
 pub reached_start : (keep : Bool) (line : List ℕ) → line ≡ [] → Reached (Before keep) 0 line []

@@ -4,7 +4,8 @@ use Rattle.std.proofs.lemmas.List.{take-append-drop}
 use Rattle.stm_history.specs.declared.explanation.Explanation.{Explanation}
 use Rattle.stm_history.specs.declared.fault.HistoryFault.{HistoryFault}
 use Rattle.stm_history.specs.declared.fault.HistoryFault.TheVariants.{NoMemory, ReadFault}
-use Rattle.stm_history.specs.Checking.{CheckerState, at_header, at_variables, at_cells, at_blocks, at_events, Forbids, ForbidsNext, IsFaultAt, NoFeed, NoNext, StopsAt, strange}
+use Rattle.stm_history.specs.Checking.{ForbidsNext, IsFaultAt, StopsAt}
+use Rattle.stm_history.specs.Progress.{CheckerState, at_header, at_variables, at_cells, at_blocks, at_events, Forbids, NoFeed, NoNext, strange}
 use Rattle.stm_history.specs.Explanation.{IsAfterLine, ReportsWhy}
 use Rattle.stm_event_lines.specs.Lines.{event_line}
 use Rattle.stm_history_text.specs.Starts.{names_after}

@@ -1,8 +1,11 @@
 -- What is reported of the line at which a checker stopped: the line that would be accepted there for the same call, or why a desk
 -- refuses the call.
 use Rattle.std.specs.Prelude.{◌≡◌, ◌⊎◌, ℕ, ◌+◌, Bool, nat_le, if◌then◌else◌, List, [], ◌∷◌, ◌++◌, length, Option, Some, None, option_map, option_and_then, string_bytes, Result, Ok, Err}
+use Rattle.stm_terms.specs.declared.kinds.Ty.{Ty}
+use Rattle.stm_terms.specs.declared.values.Value.{Value}
 use Rattle.stm_terms.specs.declared.verdicts.Verdict.{Verdict}
 use Rattle.stm_store.specs.Naming.{Named}
+use Rattle.stm_check.specs.TypedBlock.{Block}
 use Rattle.stm_events.specs.declared.errors.DeliverError.{DeliverError}
 use Rattle.stm_events.specs.declared.errors.DeliverError.TheVariants.{Gone, Already, HistoryFull}
 use Rattle.stm_events.specs.declared.event.Event.{Event}
@@ -20,52 +23,35 @@ use Rattle.stm_history.specs.declared.explanation.Explanation.TheVariants.{Expec
 use Rattle.stm_history.specs.declared.explanation.Reason.{Reason}
 use Rattle.stm_history.specs.declared.fault.HistoryFault.{HistoryFault}
 use Rattle.stm_history.specs.declared.fault.Legal.{Legal}
-use Rattle.stm_history.specs.Checking.{CheckerState, at_header, at_variables, at_cells, at_blocks, at_events, Forbids, LeadsTo, LinesUpTo, NoFeed, NoNext, strange}
+use Rattle.stm_history.specs.Progress.{CheckerState, at_header, at_variables, at_cells, at_blocks, at_events, Forbids, LeadsTo, LinesUpTo, NoFeed, NoNext, strange}
 use Rattle.stm_event_lines.specs.Fits.{FitsNames, FitsFormat}
 use Rattle.stm_history.specs.Judgement.{IsHistory, IsIllegalFrom, IsShort, ReportsFault, next_line}
 use Rattle.stm_history_text.specs.Starts.{Start, first_state, names_after, state_after_start}
 use Rattle.stm_event_lines.specs.Lines.{event_line}
 
 -- ---- calls
--- the two are one call: a submission of one block, a delivery, a finish or a cancellation under one ticket, a declaration of one
--- variable, or one label under one ticket
+-- What a client asks for: an event without what the desk adds, which is the ticket of a submission, the verdict of a delivery, and of a
+-- finish the verdict, the first new number and the stale tickets.
+pub data Call : Type 0 where
+  submission : Block → Call
+  delivery : ℕ → Call
+  finish : ℕ → Call
+  cancellation : ℕ → Call
+  declaration : List ℕ → Ty → Value → Call
+  labelling : ℕ → List ℕ → Call
+
+-- the call of an event
+abbrev pub call_of : What → Call
+call_of (Submitted t b) = submission b
+call_of (Installed t v) = delivery t
+call_of (Finished t v n stale) = finish t
+call_of (Cancelled t) = cancellation t
+call_of (DeclaredLate name kind value) = declaration name kind value
+call_of (Labelled t label) = labelling t label
+
+-- the two are of one call
 abbrev pub IsSameCall : What → What → Type 0
-IsSameCall (Submitted t b) (Submitted u c) = b ≡ c
-IsSameCall (Submitted t b) (Installed u w) = ⊥
-IsSameCall (Submitted t b) (Finished u w m k) = ⊥
-IsSameCall (Submitted t b) (Cancelled u) = ⊥
-IsSameCall (Submitted t b) (DeclaredLate other type first) = ⊥
-IsSameCall (Submitted t b) (Labelled u other) = ⊥
-IsSameCall (Installed t v) (Submitted u c) = ⊥
-IsSameCall (Installed t v) (Installed u w) = t ≡ u
-IsSameCall (Installed t v) (Finished u w m k) = ⊥
-IsSameCall (Installed t v) (Cancelled u) = ⊥
-IsSameCall (Installed t v) (DeclaredLate other type first) = ⊥
-IsSameCall (Installed t v) (Labelled u other) = ⊥
-IsSameCall (Finished t v n stale) (Submitted u c) = ⊥
-IsSameCall (Finished t v n stale) (Installed u w) = ⊥
-IsSameCall (Finished t v n stale) (Finished u w m k) = t ≡ u
-IsSameCall (Finished t v n stale) (Cancelled u) = ⊥
-IsSameCall (Finished t v n stale) (DeclaredLate other type first) = ⊥
-IsSameCall (Finished t v n stale) (Labelled u other) = ⊥
-IsSameCall (Cancelled t) (Submitted u c) = ⊥
-IsSameCall (Cancelled t) (Installed u w) = ⊥
-IsSameCall (Cancelled t) (Finished u w m k) = ⊥
-IsSameCall (Cancelled t) (Cancelled u) = t ≡ u
-IsSameCall (Cancelled t) (DeclaredLate other type first) = ⊥
-IsSameCall (Cancelled t) (Labelled u other) = ⊥
-IsSameCall (DeclaredLate name kind value) (Submitted u c) = ⊥
-IsSameCall (DeclaredLate name kind value) (Installed u w) = ⊥
-IsSameCall (DeclaredLate name kind value) (Finished u w m k) = ⊥
-IsSameCall (DeclaredLate name kind value) (Cancelled u) = ⊥
-IsSameCall (DeclaredLate name kind value) (DeclaredLate other type first) = (name ≡ other) × (kind ≡ type) × (value ≡ first)
-IsSameCall (DeclaredLate name kind value) (Labelled u other) = ⊥
-IsSameCall (Labelled t label) (Submitted u c) = ⊥
-IsSameCall (Labelled t label) (Installed u w) = ⊥
-IsSameCall (Labelled t label) (Finished u w m k) = ⊥
-IsSameCall (Labelled t label) (Cancelled u) = ⊥
-IsSameCall (Labelled t label) (DeclaredLate other type first) = ⊥
-IsSameCall (Labelled t label) (Labelled u other) = (t ≡ u) × (label ≡ other)
+IsSameCall a b = call_of a ≡ call_of b
 
 -- the verdict on the present store of the block that waits under a ticket
 abbrev pub present_verdict : Slow → Option Waiter → Option Verdict
@@ -75,14 +61,18 @@ present_verdict s o = option_and_then (λ w. verdict_on s.store w.block) o
 abbrev pub finish_with : Slow → ℕ → Verdict → What
 finish_with s t v = Finished t v (length s.store) (stale_after (waking s.rule s.store v) (without_waiter t s.waiters))
 
--- what the call of an event has to be on this state, if there is a verdict for it
+-- what a call has to be on this state, if there is a verdict for it
+abbrev pub expected_call : Slow → Call → Option What
+expected_call s (submission b) = Some (Submitted s.next b)
+expected_call s (delivery t) = option_map (Installed t) (present_verdict s (find_waiter t s.waiters))
+expected_call s (finish t) = option_map (finish_with s t) (present_verdict s (find_waiter t s.waiters))
+expected_call s (cancellation t) = Some (Cancelled t)
+expected_call s (declaration name kind value) = Some (DeclaredLate name kind value)
+expected_call s (labelling t label) = Some (Labelled t label)
+
+-- what the call of an event has to be
 abbrev pub expected_what : Slow → What → Option What
-expected_what s (Submitted t b) = Some (Submitted s.next b)
-expected_what s (Installed t v) = option_map (Installed t) (present_verdict s (find_waiter t s.waiters))
-expected_what s (Finished t v n stale) = option_map (finish_with s t) (present_verdict s (find_waiter t s.waiters))
-expected_what s (Cancelled t) = Some (Cancelled t)
-expected_what s (DeclaredLate name kind value) = Some (DeclaredLate name kind value)
-expected_what s (Labelled t label) = Some (Labelled t label)
+expected_what s a = expected_call s (call_of a)
 
 -- the first that holds: no block waits under the ticket, it is current, the history is full. A delivery of what a block does on
 -- the present store is never overtaken.
@@ -95,13 +85,17 @@ abbrev pub deliver_refused : Slow → Bool → ℕ → Option DeliverError
 deliver_refused s full t = deliver_first full (find_waiter t s.waiters)
 
 -- why a desk refuses the call, if it does; `full` says that the history has no room for an event
+abbrev pub refusal_of_call : Slow → Bool → Call → Option CallRefusal
+refusal_of_call s full (submission b) = option_map Submission (submit_refused s full b)
+refusal_of_call s full (delivery t) = option_map Delivery (deliver_refused s full t)
+refusal_of_call s full (finish t) = option_map Finish (finish_refused s full t)
+refusal_of_call s full (cancellation t) = option_map Cancellation (cancel_refused s full t)
+refusal_of_call s full (declaration name kind value) = option_map Declaration (late_declare_refused s full name kind value)
+refusal_of_call s full (labelling t label) = option_map Labelling (label_refused s full t)
+
+-- why a desk refuses the call of an event
 abbrev pub call_refusal : Slow → Bool → What → Option CallRefusal
-call_refusal s full (Submitted t b) = option_map Submission (submit_refused s full b)
-call_refusal s full (Installed t v) = option_map Delivery (deliver_refused s full t)
-call_refusal s full (Finished t v n stale) = option_map Finish (finish_refused s full t)
-call_refusal s full (Cancelled t) = option_map Cancellation (cancel_refused s full t)
-call_refusal s full (DeclaredLate name kind value) = option_map Declaration (late_declare_refused s full name kind value)
-call_refusal s full (Labelled t label) = option_map Labelling (label_refused s full t)
+call_refusal s full a = refusal_of_call s full (call_of a)
 
 -- the history has no room for an event
 abbrev pub is_history_full : List Event → Bool

@@ -1,5 +1,5 @@
 -- Laws of histories as text. The clauses of the checker fix its answer: bytes are the text of one history at most, and then no
--- fault can be reported of them; otherwise they have one first fault. What is written is taken.
+-- fault of them can be reported; otherwise they have one first fault. What is written is taken.
 use Rattle.std.specs.Prelude.{◌≡◌, ℕ, List, Option, None, ⊤}
 use Rattle.stm_store.specs.declared.cell.Cell.{Cell}
 use Rattle.stm_store.specs.Naming.{Named}
@@ -10,9 +10,10 @@ use Rattle.stm_events.specs.States.{IsLegalFrom}
 use Rattle.stm_machine.specs.Checkpoints.{CheckpointView}
 use Rattle.stm_event_lines.specs.declared.checkpoint.CheckpointHeader.{CheckpointHeader}
 use Rattle.stm_event_lines.specs.declared.checkpoint.WaitingBlock.{WaitingBlock}
+use Rattle.stm_event_lines.specs.declared.read.Header.{Header}
 use Rattle.stm_event_lines.specs.CheckpointLines.{FitsCheckpointHeader, FitsNamedCell, FitsWaitingBlock, line_of_cell, line_of_checkpoint_header, line_of_waiting}
-use Rattle.stm_event_lines.specs.Fits.{FitsNames, AreInRange, IsOneLine, BeginsWithBrace}
-use Rattle.stm_event_lines.specs.Lines.{IsFormat, rule_of, event_line, header_line, variable_line}
+use Rattle.stm_event_lines.specs.Fits.{FitsHeader, FitsNames, FitsVariable, AreInRange, IsOneLine, BeginsWithBrace}
+use Rattle.stm_event_lines.specs.Lines.{IsFormat, rule_of, event_line, header_line, line_of_header, variable_line}
 use Rattle.stm_history.specs.declared.fault.HistoryFault.{HistoryFault}
 use Rattle.stm_history.specs.declared.fault.HistoryFault.TheVariants.{ReadFault, BadHeader, BadLine, NotLegal, NoMemory}
 use Rattle.stm_history.specs.declared.fault.Legal.{Legal}
@@ -21,7 +22,7 @@ use Rattle.stm_history.specs.Judgement.{FormatFits, IsHistory, IsStart, StartFit
 use Rattle.stm_history.specs.Loading.{IsWholeHistory}
 use Rattle.stm_history_text.specs.Starts.{Start, first_state, read_back, written_start}
 
--- different events have different lines, without a line feed
+-- different events have different lines
 abbrev pub EachLineIsOneEvent : Type 0
 EachLineIsOneEvent =
     (names : List Named) (d e : Event) → FitsNames names d → FitsNames names e → event_line d ≡ event_line e → d ≡ e
@@ -49,6 +50,21 @@ CheckpointsBeginWithBraces =
     × ((c : Option (List ℕ) × Cell) → BeginsWithBrace (line_of_cell c))
     × ((w : WaitingBlock) → BeginsWithBrace (line_of_waiting w))
 
+-- The lines of a history, each without its line feed.
+pub record LinesAreFixed : Type 0 where
+  -- different events have different lines
+  pub one : EachLineIsOneEvent
+  -- the line of an event is ASCII without a control character
+  pub lines : EventsAreLines
+  -- and so are the first line of a history over a table, and the lines of its variables
+  pub headers : (h : Header) → FitsHeader h → IsOneLine (line_of_header h)
+  pub variables : (d : Declared) → FitsVariable d → IsOneLine (variable_line d)
+  -- and the lines of a checkpoint
+  pub checkpoints : CheckpointsAreLines
+  -- each line begins with `{`
+  pub braces : LinesBeginWithBraces
+  pub checkpoint_braces : CheckpointsBeginWithBraces
+
 -- the numbers of a history are fixed by its text
 abbrev pub NumbersAreFixed : Type 0
 NumbersAreFixed = (bytes : List ℕ) (m n : Legal) → IsHistory bytes m → IsHistory bytes n → m ≡ n
@@ -62,12 +78,6 @@ TextsAreOfOneHistory =
     → history_text s history ≡ history_text s' history'
     → (s ≡ s') × (history ≡ history')
 
--- no fault can be reported of the text of a legal history
-abbrev pub HistoriesAreTaken : Type 0
-HistoriesAreTaken =
-    (bytes : List ℕ) (n : Legal) (k : ℕ) → IsHistory bytes n
-    → (ReportsFault BadHeader bytes → ⊥) × (ReportsFault (BadLine k) bytes → ⊥) × (ReportsFault (NotLegal k) bytes → ⊥)
-
 -- the fault is one of the bytes, and not of the reader or of memory
 abbrev pub IsOfBytes : HistoryFault → Type 0
 IsOfBytes ReadFault = ⊥
@@ -75,6 +85,10 @@ IsOfBytes BadHeader = ⊤
 IsOfBytes (BadLine n) = ⊤
 IsOfBytes (NotLegal n) = ⊤
 IsOfBytes NoMemory = ⊥
+
+-- no fault of the bytes can be reported of the text of a legal history
+abbrev pub HistoriesAreTaken : Type 0
+HistoriesAreTaken = (bytes : List ℕ) (n : Legal) (f : HistoryFault) → IsHistory bytes n → IsOfBytes f → ReportsFault f bytes → ⊥
 
 -- the first fault is fixed: two faults that are reported of the same bytes are equal
 abbrev pub FaultsAreFixed : Type 0

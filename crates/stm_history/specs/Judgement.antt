@@ -1,5 +1,5 @@
 -- What a checker of any bytes, or of a list of events, has to report.
-use Rattle.std.specs.Prelude.{◌≡◌, ◌≢◌, ℕ, ◌+◌, ◌≤◌, ◌<◌, Bool, true, ◌&&◌, nat_eq, nat_le, if◌then◌else◌, List, [], ◌∷◌, ◌++◌, length, Option, Some, None, ⊤}
+use Rattle.std.specs.Prelude.{◌≡◌, ◌≢◌, ℕ, ◌+◌, ◌≤◌, ◌<◌, Bool, true, ◌&&◌, nat_eq, nat_le, if◌then◌else◌, List, [], ◌∷◌, ◌++◌, length, Option, Some, None, Result, Ok, Err, ⊤}
 use Rattle.stm_store.specs.declared.cell.Cell.{Cell}
 use Rattle.stm_store.specs.Naming.{AreKnown, Named, is_gapless}
 use Rattle.stm_store.specs.Tables.{Declared, declare_refusal}
@@ -77,19 +77,17 @@ abbrev pub HaveShortLines : List CheckpointBlock → Type 0
 HaveShortLines [] = ⊤
 HaveShortLines (b ∷ bs) = IsShort (block_line b) × HaveShortLines bs
 
--- a history that begins so may be written in the format
+-- a history that begins so may be written in the format: with a checkpoint that is one of checkpoints, and in format 4 no name comes after a
+-- variable without one, no block has a label, and of none it is known why it is stale
 abbrev pub FormatFits : ℕ → Option CheckpointView → Type 0
 FormatFits format None = IsFormat format
 FormatFits format (Some c) =
     IsCheckpointFormat format × (format ≡ checkpoint_format → is_gapless c.names ≡ true)
     × (format ≡ checkpoint_format → are_plain_blocks c.blocks ≡ true)
 
--- the checkpoint can be read in the format, which is one of checkpoints: in format 4 no name comes after a variable without one,
--- no block has a label, and of none it is known why it is stale
+-- the checkpoint can be read in the format
 pub record IsReadable (format : ℕ) (c : CheckpointView) : Type 0 where
-  pub is_format : IsCheckpointFormat format
-  pub gapless : format ≡ checkpoint_format → is_gapless c.names ≡ true
-  pub plain : format ≡ checkpoint_format → are_plain_blocks c.blocks ≡ true
+  pub format_fits : FormatFits format (Some c)
   pub fits : CheckpointFits c
   pub short : HaveShortLines c.blocks
 
@@ -176,6 +174,12 @@ ReportsFault (NotLegal n) bytes =
     × BeginsWithHistory start bytes history (event_line e ++ 10 ∷ more) × (n ≡ next_line start history)
     × FitsNames (names_after start history) e × FitsFormat start.format e × IsShort (event_line e) × IsIllegalFrom start history e
 
+-- What is judged of bytes, by the result: they are the text of a legal history, and the numbers are its own; otherwise their first fault is
+-- reported.
+abbrev pub JudgesHistory : List ℕ → Result Legal HistoryFault → Type 0
+JudgesHistory bytes (Ok n) = IsHistory bytes n
+JudgesHistory bytes (Err f) = ReportsFault f bytes
+
 -- what replaying reports of a list that isn't legal: the first event, counted from 1, that can't follow those before it
 abbrev pub IsFirstIllegal : HistoryFault → List Declared → List Event → Type 0
 IsFirstIllegal ReadFault table history = ⊥
@@ -185,3 +189,9 @@ IsFirstIllegal NoMemory table history = ⊤
 IsFirstIllegal (NotLegal n) table history =
     (front : List Event) × (e : Event) × (more : List Event) × (history ≡ front ++ e ∷ more) × IsLegal table front
     × IsIllegal table front e × (n ≡ length front + 1)
+
+-- What replaying a list of events over a table answers, by the present rule: the list is legal, and the numbers are its own; otherwise the
+-- first event that can't follow is reported.
+abbrev pub ReplaysAs : List Declared → List Event → Result Legal HistoryFault → Type 0
+ReplaysAs table history (Ok n) = IsLegal table history × (n ≡ numbers table history)
+ReplaysAs table history (Err f) = IsFirstIllegal f table history

@@ -3,6 +3,7 @@ pub mod Explanation
 pub mod FileLaws
 pub mod Judgement
 pub mod Loading
+pub mod Progress
 -- And the words inside.
 pub mod Checking
 pub mod Expecting

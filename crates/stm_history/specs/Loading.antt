@@ -7,12 +7,12 @@ use Rattle.stm_events.specs.SlowDesk.{state_from}
 use Rattle.stm_events.specs.States.{IsLegalFrom}
 use Rattle.stm_machine.specs.Checkpoints.{MayStart, start_of}
 use Rattle.stm_machine.specs.Machine.{IsAt}
-use Rattle.stm_event_lines.specs.Lines.{IsFormat, declaring_format, latest_format}
+use Rattle.stm_event_lines.specs.Lines.{IsFormat, declaring_format, table_format}
 use Rattle.stm_history.specs.declared.loading.LoadFault.{LoadFault}
 use Rattle.stm_history.specs.declared.loading.LoadFault.TheVariants.{Fault, OldFormat}
 use Rattle.stm_history.specs.declared.loading.Loaded.{Loaded}
 use Rattle.stm_history.specs.Judgement.{BeginsWithHistory, ReportsFault}
-use Rattle.stm_history_text.specs.Starts.{BlocksAreOfText, IsLatest, Start}
+use Rattle.stm_history_text.specs.Starts.{BlocksAreOfText, GoesByPresentRule, Start}
 
 -- the bytes are the text of this legal history, and nothing else
 abbrev pub IsWholeHistory : Start → List ℕ → List Event → Type 0
@@ -27,7 +27,7 @@ loaded_start h = record { format = h.format; table = h.table; checkpoint = h.che
 abbrev pub ReportsLoadFault : LoadFault → List ℕ → Type 0
 ReportsLoadFault (Fault f) bytes = ReportsFault f bytes
 ReportsLoadFault (OldFormat format) bytes =
-    IsFormat format × (format ≢ latest_format) × (format ≢ declaring_format) × (table : List Declared) × (history : List Event)
+    IsFormat format × (format ≢ table_format) × (format ≢ declaring_format) × (table : List Declared) × (history : List Event)
     × IsWholeHistory (record { format = format; table = table; checkpoint = None }) bytes history
 
 -- the history is legal, and can be written: some text is its text
@@ -52,7 +52,7 @@ pub record IsLoadedHistory (h : Loaded) : Type 0 where
   -- a desk can go on from it
   pub resumable : IsResumable h
   -- its format goes by the present rule: it is 3 or 5 without a checkpoint
-  pub latest : IsLatest h.format h.checkpoint
+  pub latest : GoesByPresentRule h.format h.checkpoint
   -- each waiting block of the checkpoint is that of its text
   pub blocks : IfSome h.checkpoint BlocksAreOfText
 

@@ -13,9 +13,10 @@ use Rattle.stm_history.specs.declared.check.Stage.{Stage}
 use Rattle.stm_history.specs.declared.check.Stage.TheVariants.{Before, Declaring, AtCells, AtBlocks, Running}
 use Rattle.stm_history.specs.declared.fault.HistoryFault.{HistoryFault}
 use Rattle.stm_history.specs.declared.fault.HistoryFault.TheVariants.{BadHeader, NoMemory}
-use Rattle.stm_history.specs.Checking.{CheckerState, at_header, at_variables, at_cells, at_blocks, at_events, HasTaken, IsCheckpointHead, LeadsTo}
+use Rattle.stm_history.specs.Checking.{HasTaken}
+use Rattle.stm_history.specs.Progress.{CheckerState, at_header, at_variables, at_cells, at_blocks, at_events, IsCheckpointHead, LeadsTo}
 use Rattle.stm_history.specs.Following.{Follows}
-use Rattle.stm_history_text.specs.Starts.{IsLatest}
+use Rattle.stm_history_text.specs.Starts.{GoesByPresentRule}
 
 -- the progress is that of the stage
 abbrev pub IsStage : Stage → CheckerState → Type 0
@@ -49,7 +50,7 @@ KeepsEvents (Before keep) = ⊥
 KeepsEvents (Declaring keep format vars table) = ⊥
 KeepsEvents (AtCells keep h names cells) = ⊥
 KeepsEvents (AtBlocks keep format waiting c) = ⊥
-KeepsEvents (Running format table c r) = IsLatest format c × (is_some r.kept ≡ true)
+KeepsEvents (Running format table c r) = GoesByPresentRule format c × (is_some r.kept ≡ true)
 
 -- the line leads from this progress on to that of the stage
 abbrev pub LeadsToStage : CheckerState → List ℕ → Stage → Type 0

@@ -2,7 +2,7 @@
 use Rattle.std.specs.Prelude.{◌≡◌, ℕ, List}
 use Rattle.stm_history.specs.declared.check.Stage.{Stage}
 use Rattle.stm_history.specs.declared.explanation.Explanation.{Explanation}
-use Rattle.stm_history.specs.Checking.{CheckerState, LinesUpTo}
+use Rattle.stm_history.specs.Progress.{CheckerState, LinesUpTo}
 use Rattle.stm_history.specs.Explanation.{Explains, line_after}
 use Rattle.stm_history.specs.Stages.{IsStage}
 

@@ -6,8 +6,9 @@ ghost use Rattle.stm_store.specs.Naming.{named_uses, NumbersAreBelow};
 ghost use Rattle.stm_machine.specs.Checkpoints.{MayAdd, checkpoint_block};
 ghost use Rattle.stm_event_lines.specs.CheckpointLines.{FitsCell, FitsWaiting, cell_line, checkpoint_format, waiting_line};
 ghost use Rattle.stm_history_text.specs.Starts.{is_plain_block};
-ghost use Rattle.stm_history.specs.Checking.{CheckerState, at_header, at_cells, at_blocks, IsCheckpointHead, LeadsToCells, MayBeNamed, MayRefuse, with_name_of};
-ghost use Rattle.stm_history.specs.Checking.{with_blocks as progress_with_blocks, with_cells as progress_with_cells};
+ghost use Rattle.stm_history.specs.Checking.{MayRefuse};
+ghost use Rattle.stm_history.specs.Progress.{CheckerState, at_header, at_cells, at_blocks, IsCheckpointHead, LeadsToCells, MayBeNamed, with_name_of};
+ghost use Rattle.stm_history.specs.Progress.{with_blocks as progress_with_blocks, with_cells as progress_with_cells};
 ghost use Rattle.stm_history.specs.Stages.{keeps, IsStage, LeadsToStage};
 
 use crate::check::{MAX_CELLS, Stage};

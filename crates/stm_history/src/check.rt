@@ -5,16 +5,17 @@ ghost use Rattle.stm_events.specs.declared.event.Event.{Event as AnyEvent};
 ghost use Rattle.std.specs.Io.KnownBytes.{prepend_known};
 ghost use Rattle.stm_lines.specs.Lines.{NoLineFeed};
 ghost use Rattle.stm_lines.specs.TakenLines.{bytes_to_come};
-ghost use Rattle.stm_history.specs.Checking.{CheckerState, at_header, at_variables, at_events, LeadsTo, MayRefuse, StopsAt, strange};
+ghost use Rattle.stm_history.specs.Checking.{MayRefuse, StopsAt};
+ghost use Rattle.stm_history.specs.Progress.{CheckerState, at_header, at_variables, at_events, LeadsTo, strange};
 ghost use Rattle.stm_history.specs.Reading.{FailsIn, IsReadingFault, TakesLine, TakesRest};
 ghost use Rattle.stm_event_lines.specs.Fits.{FitsNames, FitsFormat};
 ghost use Rattle.stm_history.specs.Following.{Follows};
-ghost use Rattle.stm_history.specs.Judgement.{IsHistory, IsShort, ReportsFault, lines_before, next_line};
+ghost use Rattle.stm_history.specs.Judgement.{IsHistory, IsShort, JudgesHistory, ReportsFault, lines_before, next_line};
 ghost use Rattle.stm_history_text.specs.Starts.{Start, names_after};
 ghost use Rattle.stm_event_lines.specs.Lines.{event_line};
 ghost use Rattle.stm_history.specs.declared.check.Stage.TheVariants.{Running};
 ghost use Rattle.stm_history.specs.Stages.{keeps, IsRunning, IsStage, CountsWithinLimits, LeadsToStage, Reached, refused_by};
-ghost use Rattle.stm_history.specs.Checking.{with_table as progress_with};
+ghost use Rattle.stm_history.specs.Progress.{with_table as progress_with};
 
 use crate::beginning::{take_block, take_cell, take_checkpoint_header};
 use crate::fault::{HistoryFault, Legal};
@@ -599,14 +600,13 @@ fn check_rest<R: Read>(checker: &mut Checker, reader: &mut R) -> Result<Legal, H
     }
 }
 
-/// Judges the bytes of a reader as a history of format 1, 2, 3, 4 or 5, line by line; docs/HISTORY.md has the formats. Of a line no more
-/// than 1,048,577 bytes are kept, and the reader is called 4,294,967,295 times at most. `ReadFault` if the reader fails.
+/// Judges the bytes of a reader as a history of format 1, 2, 3, 4 or 5, line by line; docs/HISTORY.md has the formats.
+///
+/// No clause says what it costs, nor when it is `ReadFault`: of a line no more than 1,048,577 bytes are kept, and it is `ReadFault` if the
+/// reader fails or was called 4,294,967,295 times.
 pub fn check_history<R: Read>(alloc: Global, reader: &mut R) -> Result<Legal, HistoryFault>
-    // The bytes are the text of a legal history, and the numbers are its own.
-    ensures done { IfOk result (λ n. IfSome (R.remaining reader.old) (λ bytes. IsHistory bytes n)) }
-    // Otherwise the first fault of the bytes is reported.
-    ensures fault { IfErr result (λ e.
-        IfSome (R.remaining reader.old) (λ bytes. ReportsFault e bytes)) }
+    // What is judged of the bytes that the reader had left: the numbers of their history, or their first fault.
+    ensures { IfSome (R.remaining reader.old) (λ bytes. JudgesHistory bytes result) }
 {
     check_history_with(alloc, Seed::fixed(), reader)
 }
@@ -617,11 +617,8 @@ pub fn check_history_with<R: Read>(
     seed: Seed,
     reader: &mut R,
 ) -> Result<Legal, HistoryFault>
-    // The bytes are the text of a legal history, and the numbers are its own.
-    ensures done { IfOk result (λ n. IfSome (R.remaining reader.old) (λ bytes. IsHistory bytes n)) }
-    // Otherwise the first fault of the bytes is reported.
-    ensures fault { IfErr result (λ e.
-        IfSome (R.remaining reader.old) (λ bytes. ReportsFault e bytes)) }
+    // What is judged of the bytes that the reader had left: the numbers of their history, or their first fault.
+    ensures { IfSome (R.remaining reader.old) (λ bytes. JudgesHistory bytes result) }
 {
     let mut checker = Checker::new(alloc, seed, false);
     check_rest(&mut checker, reader)

@@ -7,7 +7,7 @@ ghost use Rattle.stm_events.specs.declared.event.Event.{Event as AnyEvent};
 ghost use Rattle.stm_terms.specs.Limits.{max_clients};
 ghost use Rattle.stm_terms.specs.declared.verdicts.Verdict.TheVariants.{Throws};
 ghost use Rattle.stm_machine.specs.Machine.{event};
-ghost use Rattle.stm_history.specs.Checking.{CheckerState, at_header, at_variables, at_cells, at_blocks, at_events};
+ghost use Rattle.stm_history.specs.Progress.{CheckerState, at_header, at_variables, at_cells, at_blocks, at_events};
 ghost use Rattle.stm_history.specs.Expecting.{HasCheckedBlock, IsLineOf, IsShortOr};
 ghost use Rattle.stm_history.specs.Explanation.{Explains, ExplainsEvent, ExplainsHead};
 ghost use Rattle.stm_event_lines.specs.CheckpointLines.{FitsCell, FitsWaiting, IsCheckpointFormat, cell_line};
@@ -16,7 +16,7 @@ ghost use Rattle.stm_history.specs.Following.{Follows};
 ghost use Rattle.stm_history_text.specs.Starts.{Start, names_after};
 ghost use Rattle.stm_event_lines.specs.Lines.{IsFormat, variable_line};
 ghost use Rattle.stm_history.specs.Stages.{CountsWithinLimits, IsStage};
-ghost use Rattle.stm_event_lines.specs.Variables.{declared};
+ghost use Rattle.stm_event_lines.specs.ReadLines.{declared};
 
 use crate::beginning::{add_block, is_head, may_be_named, may_have_format};
 use crate::check::{MAX_CELLS, MAX_LINE, Stage};

@@ -1,9 +1,10 @@
 //! The labels of the waiting blocks after a history.
 
-ghost use Rattle.std.specs.Prelude.{ℕ, List, IfOk, OnOk, option_map};
+ghost use Rattle.std.specs.Prelude.{ℕ, List, IfOk, OnOk};
+ghost use Rattle.std.specs.Option.{option_copied};
 ghost use Rattle.stm_store.specs.declared.cell.Cell.{Cell as AnyCell};
 ghost use Rattle.stm_events.specs.Labels.{AreSameLabels, labels_after, labels_from};
-ghost use Rattle.stm_machine.specs.Checkpoints.{AreCheckpointBlocks, first_labels, labels_in};
+ghost use Rattle.stm_machine.specs.Checkpoints.{AreCheckpointBlocks, first_labels, labels_in, labels_of_history};
 
 use std::alloc::Global;
 use stm_events::event::{Event, What};
@@ -65,7 +66,7 @@ fn labels_in(alloc: Global, blocks: &[CheckpointBlock]) -> Result<LabelTable, No
 
 /// The labels with which a history begins: those of its checkpoint, if it begins from one.
 fn first_labels(alloc: Global, checkpoint: Option<&Checkpoint>) -> Result<LabelTable, NoMemory>
-    ensures { IfOk result (λ labels. AreSameLabels labels (first_labels (option_map (λ c. c.now) checkpoint.entry))) }
+    ensures { IfOk result (λ labels. AreSameLabels labels (first_labels (option_copied checkpoint.entry))) }
 {
     match checkpoint {
         None => Ok(LabelTable::empty(alloc)),
@@ -84,7 +85,7 @@ pub fn labels_after_history(
     history: &[Event],
 ) -> Result<LabelTable, NoMemory>
     ensures { IfOk result (λ labels. AreSameLabels labels
-        (labels_from (first_labels (option_map (λ c. c.now) checkpoint.entry)) history.now)) }
+        (labels_of_history (option_copied checkpoint.entry) history.now)) }
 {
     let mut labels = first_labels(alloc, checkpoint)?;
     match follow_labels(&mut labels, history) {

@@ -2,10 +2,10 @@
 
 ghost use Rattle.std.specs.Prelude.{◌≡◌, ◌≢◌, [], true, ℕ, List, None, OnOk, IfErr, IfSome, is_some};
 ghost use Rattle.stm_events.specs.declared.event.Event.{Event as AnyEvent};
-ghost use Rattle.stm_event_lines.specs.Lines.{declaring_format, latest_format};
+ghost use Rattle.stm_event_lines.specs.Lines.{declaring_format, table_format};
 ghost use Rattle.stm_machine.specs.Checkpoints.{start_of};
 ghost use Rattle.stm_history.specs.Loading.{IsWholeHistory, LoadsAs, ReportsLoadFault, loaded_start};
-ghost use Rattle.stm_history_text.specs.Starts.{IsLatest};
+ghost use Rattle.stm_history_text.specs.Starts.{GoesByPresentRule};
 ghost use Rattle.stm_history.specs.Stages.{keeps, Reached, KeepsEvents};
 ghost use Rattle.stm_events.specs.SlowDesk.{state_from};
 ghost use Rattle.stm_machine.specs.Machine.{IsAt};
@@ -15,7 +15,7 @@ use crate::fault::HistoryFault;
 use crate::replayer::Replayer;
 use std::alloc::Global;
 use std::io::Read;
-use stm_event_lines::formats::{DECLARING_FORMAT, LATEST_FORMAT};
+use stm_event_lines::formats::{DECLARING_FORMAT, TABLE_FORMAT};
 use stm_events::event::Event;
 use stm_machine::checkpoint::Checkpoint;
 use stm_machine::machine::Machine;
@@ -101,15 +101,15 @@ fn loaded_of(
 }
 
 /// Whether a history may go on from its format, or begins from a checkpoint; `OldFormat` if not.
-fn is_latest(format: u32, checkpoint: &Option<Checkpoint>) -> Result<(), LoadFault>
-    ensures ok { OnOk result (IsLatest format checkpoint.now) }
-    ensures fault { IfErr result (λ e. (e ≡ LoadFault.OldFormat format) × (format ≢ latest_format)
+fn goes_by_present_rule(format: u32, checkpoint: &Option<Checkpoint>) -> Result<(), LoadFault>
+    ensures ok { OnOk result (GoesByPresentRule format checkpoint.now) }
+    ensures fault { IfErr result (λ e. (e ≡ LoadFault.OldFormat format) × (format ≢ table_format)
         × (format ≢ declaring_format) × (checkpoint.now ≡ None)) }
 {
     match checkpoint {
         Some(_) => Ok(()),
         None => {
-            if format == LATEST_FORMAT || format == DECLARING_FORMAT {
+            if format == TABLE_FORMAT || format == DECLARING_FORMAT {
                 Ok(())
             } else {
                 Err(LoadFault::OldFormat(format))
@@ -141,7 +141,7 @@ impl Checker {
                 format,
                 checkpoint,
                 ..
-            } => is_latest(*format, checkpoint),
+            } => goes_by_present_rule(*format, checkpoint),
         }
     }
 
@@ -152,7 +152,7 @@ impl Checker {
         requires line { self.line.items ≡ [] }
         ensures history { (taken : List ℕ) → Reached self.stage self.whole self.line.items taken
             → IsWholeHistory (loaded_start result) taken result.events.items }
-        ensures latest { IsLatest result.format result.checkpoint }
+        ensures latest { GoesByPresentRule result.format result.checkpoint }
         ensures at { IsAt result.machine (state_from (start_of result.table result.checkpoint) result.events.items) }
     {
         match self.into_stage() {
@@ -189,7 +189,8 @@ fn load_rest<R: Read>(checker: &mut Checker, reader: &mut R) -> Result<(), LoadF
 }
 
 /// Reads the text of a legal history of format 3, 4 or 5 to its end, line by line, and keeps what it read. It judges as
-/// `check_history_with` does, and evaluates each installed verdict once. The names of variables are looked up under the seed.
+/// `check_history_with` does. The names of variables are looked up under the seed. Each installed verdict is evaluated once, which no
+/// clause says.
 pub fn load_history<R: Read>(alloc: Global, seed: Seed, reader: &mut R) -> Result<Loaded, LoadFault>
     // What was loaded of the bytes that the reader had left, or why nothing was.
     ensures { LoadsAs (R.remaining reader.old) result }

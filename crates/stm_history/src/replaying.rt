@@ -1,17 +1,16 @@
 //! Lists of events, judged.
 
-ghost use Rattle.std.specs.Prelude.{◌≡◌, [], List, IfOk, IfErr, OnOk};
+ghost use Rattle.std.specs.Prelude.{[], List, IfErr, OnOk};
 ghost use Rattle.stm_store.specs.Tables.{Declared};
 ghost use Rattle.stm_history.specs.Following.{Follows};
-ghost use Rattle.stm_history.specs.Judgement.{numbers, IsFirstIllegal};
+ghost use Rattle.stm_history.specs.Judgement.{IsFirstIllegal, ReplaysAs};
 ghost use Rattle.stm_history_text.specs.Starts.{table_start};
-ghost use Rattle.stm_events.specs.SlowDesk.{IsLegal};
 
 use crate::fault::{HistoryFault, Legal};
 use crate::replayer::Replayer;
 use crate::stepping::StepError;
 use std::alloc::Global;
-use stm_event_lines::formats::LATEST_FORMAT;
+use stm_event_lines::formats::TABLE_FORMAT;
 use stm_events::event::Event;
 use stm_store::Table;
 
@@ -37,13 +36,10 @@ fn step_all(replayer: &mut Replayer, history: &[Event]) -> Result<(), HistoryFau
 
 /// Judges a list of events over a table, by the present rule. `NotLegal` counts the events from 1.
 pub fn replay(alloc: Global, table: &Table, history: &[Event]) -> Result<Legal, HistoryFault>
-    // The list is legal, and the numbers are its own.
-    ensures done { IfOk result (λ n. IsLegal table.now history.now
-        × (n ≡ numbers table.now history.now)) }
-    // Otherwise the first event that isn't allowed is reported.
-    ensures fault { IfErr result (λ e. IsFirstIllegal e table.now history.now) }
+    // The list is legal, and the numbers are its own; otherwise the first event that isn't allowed is reported.
+    ensures { ReplaysAs table.now history.now result }
 {
-    let mut replayer = match Replayer::open(alloc, LATEST_FORMAT, table, false) {
+    let mut replayer = match Replayer::open(alloc, TABLE_FORMAT, table, false) {
         Ok(replayer) => replayer,
         Err(_) => return Err(HistoryFault::NoMemory),
     };

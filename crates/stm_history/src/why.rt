@@ -1,7 +1,8 @@
 //! Bytes that are no legal history: the first fault, and what is reported of its line.
 
 ghost use Rattle.std.specs.Prelude.{◌≡◌, ◌≢◌, ◌++◌, [], ℕ, List, IfOk, IfErr, OnOk};
-ghost use Rattle.stm_history.specs.Checking.{CheckerState, NoFeed, StopsAt};
+ghost use Rattle.stm_history.specs.Checking.{StopsAt};
+ghost use Rattle.stm_history.specs.Progress.{CheckerState, NoFeed};
 ghost use Rattle.stm_history.specs.Explanation.{IsAfterLine, JudgesWithReason, ReportsWhy, line_after};
 ghost use Rattle.stm_history.specs.Judgement.{IsHistory, ReportsFault};
 ghost use Rattle.stm_history.specs.Stages.{IsStage, CountsWithinLimits, Reached};
@@ -176,8 +177,8 @@ fn judge_all(alloc: Global, seed: Seed, bytes: &[u8]) -> Result<Legal, (HistoryF
     }
 }
 
-/// Judges bytes as a history, as `check_history` does, and reports why they are none. If they have a fault, the lines before it
-/// are judged twice. The fault of a reason is never `ReadFault` or `NoMemory`.
+/// Judges bytes as a history, as `check_history` does, and reports why they are none. The fault of a reason is never `ReadFault` or
+/// `NoMemory`. If the bytes have a fault, the lines before it are judged twice, which no clause says.
 pub fn why_history(
     alloc: Global,
     seed: Seed,

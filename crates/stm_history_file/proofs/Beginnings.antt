@@ -1,5 +1,5 @@
 -- A history that begins in a new file.
-use Rattle.std.proofs.Common.{◌≡◌, ◌⊎◌, inl, inr, ⊎_elim, ℕ, ◌≤◌, List, [], ◌++◌, Bool, true, false, Err, sym, ◌∙◌, ap, subst}
+use Rattle.std.proofs.Common.{◌≡◌, ◌≢◌, ◌⊎◌, inl, inr, ⊎_elim, ℕ, ◌≤◌, List, [], ◌++◌, drop, Bool, true, false, Err, sym, ◌∙◌, ap, subst, arith}
 use Rattle.stm_events.specs.declared.event.Event.{Event}
 use Rattle.stm_history_text.specs.HistoryText.{history_text}
 use Rattle.stm_history_text.specs.Starts.{Start}
@@ -9,12 +9,13 @@ use Rattle.stm_journal.specs.declared.replace.ReplaceError.TheVariants.{Refused,
 use Rattle.stm_journal.specs.declared.sync_mode.SyncMode.{SyncMode}
 use Rattle.stm_journal.specs.declared.sync_mode.SyncMode.TheVariants.{Full, Sector, Append, Never}
 use Rattle.stm_journal.specs.Disk.{CrashLeaves, Disk, FailsOnlyByDisk, LeavesOnly, Shows}
+use Rattle.stm_journal.specs.FirstBatch.{IsBegun}
 use Rattle.stm_journal.specs.Journal.{IsAtRest}
 use Rattle.stm_journal.specs.Replacing.{ReplacesAs, error_within}
 use Rattle.stm_journal.specs.Text.{IsWhole}
 use Rattle.stm_journal.proofs.Moments.{joined, weaker}
 use Rattle.stm_journal.proofs.Wholes.{recovered_whole}
-use Rattle.stm_history_file.specs.Durable.{BeginsAs, HistoryKept, HasAllEventsOrNone, KeepsHistories, LeavesHistory, MayBecome, file_text}
+use Rattle.stm_history_file.specs.Durable.{BeginsAs, HistoryKept, HasAllEventsOrNone, IsOwn, KeepsHistories, LeavesHistory, MayBecome, file_text, history_front}
 use Rattle.stm_history_file.specs.declared.recording.HistoryFile.{HistoryFile}
 use Rattle.stm_history_file.proofs.Crashes.{stays_left, if_synced, nothing_dropped}
 
@@ -55,7 +56,7 @@ not_replaced disk old new start events mid other (Refused e) begun format counts
 not_replaced disk old new start events mid other (Unfinished e) begun format counts same rest first text is fault =
     record {
       seen = λ honest. ⊎_elim (λ seen. inl (seen ∙ same honest)) (λ seen. inr (seen ∙ text honest)) (is honest);
-      long = λ honest long. absurd (⊎_elim (fault honest).cause.too_long (fault honest).cause.full long);
+      error = λ honest. (λ is. (fault honest).cause.too_long (ap Err is), λ is. (fault honest).cause.full (ap Err is));
       begun = begun;
       format = format;
     }
@@ -100,3 +101,28 @@ module _ {D : Type 0} (disk : Disk D) (f : HistoryFile D) (start : Start) (histo
   pub begun_left : (c : List ℕ) → (c ≡ disk.seen f.journal.device) ⊎ (c ≡ history_text start []) → MayBecome disk f start history [] c
   begun_left c h =
       ⊎_elim (λ same. subst (MayBecome disk f start history []) (sym same) (stays_left disk f start history [] keeps)) (all_left c) h
+
+  -- the file had nothing
+  had_nothing : disk.seen f.journal.device ≡ []
+  had_nothing = keeps.text ∙ ap (λ (b : Bool). file_text b start history) first
+
+  -- a file with nothing is one in which a first batch may be begun
+  nothing_own : (c : List ℕ) → c ≡ [] → IsOwn f.begun start [] c
+  nothing_own c none other = let empty : IsBegun history_front [] = inl (omega arith) in absurd (other.other (subst (IsBegun history_front) (sym none) empty))
+
+  all_own : (c : List ℕ) → c ≡ history_text start [] → IsOwn f.begun start [] c
+  all_own c text other = (first, ap (λ (l : List ℕ). drop 1 l) text)
+
+  old_own : f.journal.sync ≢ Never → (c : List ℕ) → disk.may_leave f.journal.device c → IsOwn f.begun start [] c
+  old_own some c left = nothing_own c (keeps.at_rest.durable some c left ∙ had_nothing)
+
+  -- while a new file takes the place of the old one, what is left isn't some other file
+  pub own_begun_run : f.journal.sync ≢ Never → (new : D) → LeavesOnly disk f.journal.device new (λ c. disk.may_leave f.journal.device c ⊎ (c ≡ history_text start []))
+      → LeavesOnly disk f.journal.device new (IsOwn f.begun start [])
+  own_begun_run some new run =
+      weaker disk f.journal.device new (λ c. disk.may_leave f.journal.device c ⊎ (c ≡ history_text start [])) (IsOwn f.begun start []) run
+      (λ c h. ⊎_elim (old_own some c) (all_own c) h)
+
+  -- nor is it after it, or after an error
+  pub own_begun_left : (c : List ℕ) → (c ≡ disk.seen f.journal.device) ⊎ (c ≡ history_text start []) → IsOwn f.begun start [] c
+  own_begun_left c h = ⊎_elim (λ same. nothing_own c (same ∙ had_nothing)) (all_own c) h

@@ -11,7 +11,7 @@ use Rattle.stm_history_text.specs.Starts.{Start, first_state, read_back, state_a
 use Rattle.stm_history.proofs.KeptIsTaken.{what_is_kept_is_taken}
 use Rattle.stm_journal.specs.Text.{IsWhole, recovered}
 use Rattle.stm_journal.proofs.Wholes.{recovered_whole}
-use Rattle.stm_history_file.specs.Durable.{file_text, MayGoOn, AllOrNoneIsResumed, FirstAreResumed, CheckpointIsResumed}
+use Rattle.stm_history_file.specs.Durable.{file_text, MayGoOn, AllOrNoneIsResumed, FirstAreResumed, StartIsResumed}
 use Rattle.stm_history_file.proofs.Texts.{IsWhole-start}
 
 take_all : (xs : List Event) → take (length xs) xs ≡ xs
@@ -76,8 +76,8 @@ all_or_none_is_resumed begun start history events file left may = by begun left.
 pub first_are_resumed : FirstAreResumed
 first_are_resumed start history events file left may = (left.count, is_history start history events left.count (recovered file) left.lines may)
 
-pub checkpoint_is_resumed : CheckpointIsResumed
-checkpoint_is_resumed start file begins is =
+pub start_is_resumed : StartIsResumed
+start_is_resumed start file begins is =
     let none : start_text start ≡ history_text start [] = sym (append-nil (start_text start)) in
     let whole : IsWhole file = subst IsWhole (sym is) (IsWhole-start start.format start.table start.checkpoint begins.format_fits begins.fits) in
     let all = recovered_whole file whole in (

@@ -11,10 +11,10 @@ use Rattle.stm_events.specs.SlowDesk.{Slow, after}
 use Rattle.stm_machine.specs.Checkpoints.{CheckpointView}
 use Rattle.stm_event_lines.specs.CheckpointLines.{checkpoint_format}
 use Rattle.stm_event_lines.specs.Fits.{WhatFitsFormat}
-use Rattle.stm_event_lines.specs.Lines.{declaring_format, latest_format}
+use Rattle.stm_event_lines.specs.Lines.{declaring_format, table_format}
 use Rattle.stm_history.specs.Judgement.{AreEvents}
 use Rattle.stm_history.specs.Loading.{HasText, loaded_start}
-use Rattle.stm_history_text.specs.Starts.{IsLatest, are_plain_blocks, declares, format_for, format_of_start, is_declaration, is_labelling, labels_blocks}
+use Rattle.stm_history_text.specs.Starts.{GoesByPresentRule, are_plain_blocks, declares, format_for, format_of_start, is_declaration, is_labelling, labels_blocks}
 use Rattle.stm_history.specs.declared.loading.Loaded.{Loaded}
 use Rattle.stm_journal.specs.declared.error.JournalError.{JournalError}
 use Rattle.stm_journal.specs.declared.error.JournalError.TheVariants.{Failed, NoSpace, Full as FullFile, TooLong, TornTooLong}
@@ -64,7 +64,7 @@ checkpoint_start_is : (c : CheckpointView) → is_gapless c.names ≡ true → a
 checkpoint_start_is c gapless plain = ap₂ (λ (a b : Bool). if a && b then checkpoint_format else declaring_format) gapless plain
 
 -- a history that was loaded is in one of its formats
-pub loaded_format_is : (format : ℕ) (table : List Declared) (checkpoint : Option CheckpointView) (es : List Event) → IsLatest format checkpoint
+pub loaded_format_is : (format : ℕ) (table : List Declared) (checkpoint : Option CheckpointView) (es : List Event) → GoesByPresentRule format checkpoint
     → HasText (record { format = format; table = table; checkpoint = checkpoint }) es → IsFormatFor format checkpoint es
 loaded_format_is format table None es (inr is) text = inr is
 loaded_format_is format table None es (inl is) text =
@@ -73,11 +73,11 @@ loaded_format_is format table (Some c) es latest text =
     let start = text.1.start.1 in
     ⊎_elim
     (λ four. inl (four ∙ sym (start_format_is (Some c) es (other_events format _ es (λ e. cc (e, four)) text.1.events)
-    ∙ checkpoint_start_is c (start.gapless four) (start.plain four))))
-    inr start.is_format
+    ∙ checkpoint_start_is c (start.format_fits.1 four) (start.format_fits.2 four))))
+    inr start.format_fits.0
 
 -- so the format of the file is one for what was loaded
-pub format_of_loaded : (format : ℕ) (loaded : Option Loaded) → (loaded ≡ None → format ≡ latest_format) → ((h : Loaded) → loaded ≡ Some h → format ≡ h.format)
+pub format_of_loaded : (format : ℕ) (loaded : Option Loaded) → (loaded ≡ None → format ≡ table_format) → ((h : Loaded) → loaded ≡ Some h → format ≡ h.format)
     → IfSome loaded (λ h. IsFormatFor h.format h.checkpoint h.events.items) → IsFormatOf format loaded
 format_of_loaded format None none some is = inl (none refl)
 format_of_loaded format (Some h) none some is = (some h refl, is)

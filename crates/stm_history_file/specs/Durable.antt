@@ -1,5 +1,5 @@
 -- The file of a history: nothing before its first batch, and then exactly the text of docs/HISTORY.md.
-use Rattle.std.specs.Prelude.{◌≡◌, ◌≢◌, ◌⊎◌, ⊤, ◌≤◌, ◌<◌, ◌+◌, Option, Some, None, ℕ, Bool, true, false, IsTrue, List, [], ◌∷◌, ◌++◌, length, take, drop, codes, option_copied, IfSome, Result, Ok, Err, IsErrOf}
+use Rattle.std.specs.Prelude.{◌≡◌, ◌≢◌, ◌⊎◌, ⊤, ◌≤◌, ◌<◌, ◌+◌, Option, Some, None, ℕ, Bool, true, false, IsTrue, List, [], ◌∷◌, ◌++◌, length, take, drop, codes, IfSome, Result, Ok, Err}
 use Rattle.std.specs.Borrow.{Bor}
 use Rattle.stm_terms.specs.UnlessNoMemory.{AnswersUnless}
 use Rattle.stm_store.specs.Tables.{Declared}
@@ -13,7 +13,7 @@ use Rattle.stm_history_text.specs.HistoryText.{event_lines, history_text, start_
 use Rattle.stm_history.specs.Judgement.{AreEvents, AreShortLines, FormatFits, StartFits}
 use Rattle.stm_history.specs.Loading.{IsWholeHistory, ReportsLoadFault, loaded_start}
 use Rattle.stm_history.specs.Loading.{IsResumable}
-use Rattle.stm_history_text.specs.Starts.{BlocksAreOfText, Start, first_state, format_for, read_back, state_after_start}
+use Rattle.stm_history_text.specs.Starts.{BlocksAreOfText, Start, first_state, format_for, lent_start, read_back, state_after_start}
 use Rattle.stm_history.specs.declared.loading.Loaded.{Loaded}
 use Rattle.stm_journal.specs.declared.sync_mode.SyncMode.{SyncMode}
 use Rattle.stm_journal.specs.declared.sync_mode.SyncMode.TheVariants.{Full, Sector, Append, Never}
@@ -31,9 +31,9 @@ use Rattle.stm_history_file.specs.declared.resuming.OpenFault.{OpenFault}
 use Rattle.stm_history_file.specs.declared.resuming.OpenFault.TheVariants.{Journal, History, Foreign}
 use Rattle.stm_history_file.specs.declared.resuming.Opened.{Opened}
 
--- where a history in the format begins with this table and, if it does, from a checkpoint that is lent
-abbrev pub lent_start : ℕ → List Declared → Option (Bor CheckpointView) → Start
-lent_start format table checkpoint = record { format = format; table = table; checkpoint = option_copied checkpoint }
+-- where the history of the file begins, with this table and, if it does, from a checkpoint that is lent: in the format of the file
+abbrev pub start_of_file : {D : Type 0} → HistoryFile D → List Declared → Option (Bor CheckpointView) → Start
+start_of_file f table checkpoint = lent_start f.format table checkpoint
 
 -- The format is the one in which a history is written that begins so and has these events, or that of late declarations and labels, in
 -- which each history can be written.
@@ -66,6 +66,7 @@ pub record HistoryKept {D : Type 0} (disk : Disk D) (f : HistoryFile D) (start :
   pub none : f.begun ≡ false → history ≡ []
   pub format_is : f.begun ≡ true → f.format ≡ start.format
 
+-- the same, if the device is honest
 abbrev pub KeepsHistory : {D : Type 0} → Disk D → HistoryFile D → Start → List Event → Type 0
 KeepsHistory disk f start history = IsTrue disk.is_honest → HistoryKept disk f start history
 
@@ -87,6 +88,10 @@ pub record FitLines (start : Start) (s : Slow) (events : List Event) : Type 0 wh
   pub format_fits : FormatFits start.format start.checkpoint
   pub start_fits : StartFits start
   pub fit : AreFit start.format s events
+
+-- the start can be in lines, and so can these events, after whatever history they come
+abbrev pub CanBeRecorded : Start → List Event → Type 0
+CanBeRecorded start events = (s : Slow) × FitLines start s events
 
 -- ---- crashes
 
@@ -223,12 +228,6 @@ KeepsHistories disk old new =
 abbrev pub LeavesOld : {D : Type 0} → Disk D → HistoryFile D → HistoryFile D → Type 0
 LeavesOld disk old new = CrashLeaves disk old.journal.device new.journal.device (disk.may_leave old.journal.device)
 
--- what is too long leaves each history as it was, and more can be recorded after it
-abbrev pub RefusalKeeps : {D : Type 0} → Disk D → HistoryFile D → HistoryFile D → Result (Unit {0}) JournalError → Type 0
-RefusalKeeps disk old new result =
-    IsTrue disk.is_honest → IsErrOf result TooLong ⊎ IsErrOf result FullFile
-    → (start : Start) (history : List Event) → HistoryKept disk old start history → HistoryKept disk new start history
-
 -- The file begins with this history: it has just that, and more can be recorded after it.
 pub record HasBegunWith {D : Type 0} (disk : Disk D) (f : HistoryFile D) (start : Start) (events : List Event) : Type 0 where
   -- the file has exactly this history, on the disk if the journal syncs
@@ -256,8 +255,8 @@ pub record IsUnchanged {D : Type 0} (disk : Disk D) (old new : HistoryFile D) : 
 pub record IsOldOrNew {D : Type 0} (disk : Disk D) (old new : HistoryFile D) (start : Start) (events : List Event) (e : JournalError) : Type 0 where
   -- reads return the bytes that they returned, or just the text of the history
   pub seen : IsOldOrAll disk old new (history_text start events)
-  -- after an error that says that something is too long, the file has each history that it had
-  pub long : RefusalKeeps disk old new (Err e)
+  -- the error isn't that something is too long: that is refused
+  pub error : IsTrue disk.is_honest → (e ≢ TooLong) × (e ≢ FullFile)
   -- the first lines and the format are known as before
   pub begun : new.begun ≡ old.begun
   pub format : new.format ≡ old.format
@@ -291,6 +290,7 @@ abbrev pub LoadedKept : {D : Type 0} → Disk D → HistoryFile D → Option Loa
 LoadedKept disk f None = (f.begun ≡ false) × ((start : Start) → HistoryKept disk f start [])
 LoadedKept disk f (Some h) = (f.begun ≡ true) × HistoryKept disk f (loaded_start h) h.events.items
 
+-- the same, if the device is honest
 abbrev pub HasLoaded : {D : Type 0} → Disk D → HistoryFile D → Option Loaded → Type 0
 HasLoaded disk f loaded = IsTrue disk.is_honest → LoadedKept disk f loaded
 
@@ -416,9 +416,10 @@ FirstAreResumed =
     → HasFirst start history events file → MayGoOn start history events
     → (count : ℕ) × IsWholeHistory (read_back start) (recovered file) (history ++ take count events)
 
--- A file with just the lines of a checkpoint is loaded again as that checkpoint, with no events, and nothing of it is dropped.
-abbrev pub CheckpointIsResumed : Type 0
-CheckpointIsResumed =
+-- A file with just the lines before the events, of a table or of a checkpoint, is loaded again as a history that begins so, with no events,
+-- and nothing of it is dropped.
+abbrev pub StartIsResumed : Type 0
+StartIsResumed =
     (start : Start) (file : List ℕ) → StartCanBeRead start → file ≡ start_text start
     → IsWholeHistory (read_back start) (recovered file) [] × (dropped_count file ≡ 0)
 

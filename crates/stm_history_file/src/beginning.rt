@@ -1,14 +1,14 @@
 //! A history that begins, begins again from a checkpoint, or goes over to another format, in a new file.
 
 ghost use Rattle.std.specs.Prelude.{◌≡◌, [], true, false, Some, IsTrue, IfOk, OnOk};
-ghost use Rattle.stm_events.specs.SlowDesk.{Slow};
 ghost use Rattle.stm_history_text.specs.HistoryText.{history_text};
+ghost use Rattle.stm_history_text.specs.Starts.{lent_start};
 ghost use Rattle.stm_lines.specs.WrittenFronts.{WritesText};
 ghost use Rattle.stm_history.specs.Judgement.{AreShortLines};
 ghost use Rattle.stm_journal.specs.Disk.{Shows, HasLength, IsOnDisk};
 ghost use Rattle.stm_journal.specs.NewFile.{written_to};
 ghost use Rattle.stm_journal.specs.Replacing.{journal_result};
-ghost use Rattle.stm_history_file.specs.Durable.{lent_start, KeepsAny, KeepsSome, LeavesOldOrAll, LeavesAtAnyMoment, BeginsAs, BeginsUnless, FitLines, Records};
+ghost use Rattle.stm_history_file.specs.Durable.{KeepsAny, KeepsSome, LeavesOldOrAll, LeavesRecording, BeginsAs, BeginsUnless, CanBeRecorded, HasRecorded};
 
 use crate::measured::MeasuredFile;
 use crate::recording::HistoryFile;
@@ -93,13 +93,17 @@ impl<D: Replace + Drop> HistoryFile<D> {
         checkpoint: Option<&Checkpoint>,
         events: &[Event],
     ) -> Result<(), ReplaceError>
+        // The file has some history, and no sync of it has failed.
         requires kept { KeepsAny D.disk self.old }
-        requires fit { (s : Slow) × FitLines (lent_start format table.now checkpoint) s events.now }
+        // The lines before the events can be written in the format, and so can the events, after whatever history they come.
+        requires fit { CanBeRecorded (lent_start format table.now checkpoint) events.now }
         // What it has done to the file: on `Ok`, after a refusal, and after any other error.
         ensures begins { BeginsAs D.disk self.old self.new (lent_start format table.now checkpoint.entry) events.now result }
         // A crash at any moment of the call leaves what it might have left before, or the whole new file.
         ensures any_moment { LeavesOldOrAll D.disk self.old self.new (history_text (lent_start format table.now checkpoint.entry) events.now) }
+        // The file is synced as before.
         ensures sync { self.new.journal.sync ≡ self.old.journal.sync }
+        // The call fails only if a disk does, if memory runs out, or if a line or the file is too long.
         ensures fault { BeginsUnless D.disk (lent_start format table.now checkpoint.entry) events.now (journal_result result) }
     {
         let file = match self.journal.new_file(alloc) {
@@ -130,15 +134,21 @@ impl<D: Replace + Drop> HistoryFile<D> {
         table: &Table,
         checkpoint: Option<&Checkpoint>,
     ) -> Result<(), JournalError>
+        // No sync of the file has failed.
         requires kept { KeepsSome D.disk self.old (lent_start format table.now checkpoint) }
-        requires fit { (s : Slow) × FitLines (lent_start format table.now checkpoint) s [] }
+        // The lines before the events can be written in the format.
+        requires fit { CanBeRecorded (lent_start format table.now checkpoint) [] }
+        // It has no history yet.
         requires none { self.old.begun ≡ false }
-        ensures recorded { OnOk result (Records D.disk self.old self.new (lent_start format table.now checkpoint.entry) []) }
-        ensures begun { OnOk result (self.new.begun ≡ true) }
+        // The lines before the events were recorded.
+        ensures recorded { OnOk result (HasRecorded D.disk self.old self.new (lent_start format table.now checkpoint.entry) []) }
+        // A crash at any moment, and an error, leave no history yet, or all lines before the events, or what the sync mode promises; and
+        // no other file, unless the crash tears the byte that opens the first batch.
+        ensures any_moment { LeavesRecording D.disk self.old self.new (lent_start format table.now checkpoint.entry) [] }
+        // The format is the new one, and the file is synced as before.
         ensures format { self.new.format ≡ format }
         ensures sync { self.new.journal.sync ≡ self.old.journal.sync }
-        // A crash at any moment, and an error, leave no history yet, or all lines before the events, or what the sync mode promises.
-        ensures any_moment { LeavesAtAnyMoment D.disk self.old self.new (lent_start format table.now checkpoint.entry) [] }
+        // The call fails only if a disk does, if memory runs out, or if a line or the file is too long.
         ensures fault { BeginsUnless D.disk (lent_start format table.now checkpoint.entry) [] result }
     {
         self.format = format;
@@ -155,7 +165,7 @@ impl<D: Replace + Drop> HistoryFile<D> {
         }
     }
 
-    /// Reports why the history didn't begin again, unless that was reported since it did.
+    /// Reports why the history didn't begin again, unless that was reported since it did. No clause says what is reported.
     pub fn report(&mut self, error: JournalError)
         ensures same { IsTrue D.disk.is_honest → self.new ≡ self.old }
         ensures sync { self.new.journal.sync ≡ self.old.journal.sync }

@@ -1,12 +1,12 @@
 //! Events, recorded in a file.
 
 ghost use Rattle.std.specs.Prelude.{◌≡◌, ◌≢◌, ◌++◌, ◌+◌, ◌<◌, ◌≤◌, [], true, false, IsTrue, length, take, OnOk, IfOk, IfErr};
-ghost use Rattle.stm_events.specs.SlowDesk.{Slow};
 ghost use Rattle.stm_journal.specs.Device.{most_file, only_full};
 ghost use Rattle.stm_journal.specs.Disk.{Shows, CrashLeaves, FailsOnlyIf};
 ghost use Rattle.stm_journal.specs.Journal.{IsAtRest, MayLeave, most_batch};
 ghost use Rattle.stm_journal.specs.Text.{IsWhole};
-ghost use Rattle.stm_history_file.specs.Durable.{lent_start, history_front, IsBegunOrWhole, batch_text, batch_sync, KeepsSome, FitLines, HasRecorded, LeavesRecording, RefusesLongEvents, RecordsUnless};
+ghost use Rattle.stm_history_text.specs.Starts.{lent_start};
+ghost use Rattle.stm_history_file.specs.Durable.{start_of_file, history_front, IsBegunOrWhole, batch_text, batch_sync, KeepsSome, CanBeRecorded, HasRecorded, LeavesRecording, RefusesLongEvents, RecordsUnless};
 
 use std::alloc::Global;
 use stm_events::Event;
@@ -100,14 +100,20 @@ impl<D: Device> HistoryFile<D> {
         checkpoint: Option<&Checkpoint>,
         events: &[Event],
     ) -> Result<(), JournalError>
-        requires kept { KeepsSome D.disk self.old (lent_start self.old.format table.now checkpoint) }
-        requires fit { (s : Slow) × FitLines (lent_start self.old.format table.now checkpoint) s events.now }
+        // The file has some history that begins so, and no sync of it has failed.
+        requires kept { KeepsSome D.disk self.old (start_of_file self.old table.now checkpoint) }
+        // The lines before the events can be written in its format, and so can the events, after whatever history they come.
+        requires fit { CanBeRecorded (start_of_file self.old table.now checkpoint) events.now }
         // The events come after those that the file has.
-        ensures recorded { OnOk result (HasRecorded D.disk self.old self.new (lent_start self.old.format table.now checkpoint.entry) events.now) }
-        // Whatever the result, a crash at any moment leaves the history from before, and of these events what the sync mode promises.
-        ensures any_moment { LeavesRecording D.disk self.old self.new (lent_start self.old.format table.now checkpoint.entry) events.now }
-        ensures refused { RefusesLongEvents self.old self.new (lent_start self.old.format table.now checkpoint.entry) events.now result }
-        ensures fault { RecordsUnless D.disk self.old self.new (lent_start self.old.format table.now checkpoint.entry) events.now result }
+        ensures recorded { OnOk result (HasRecorded D.disk self.old self.new (start_of_file self.old table.now checkpoint.entry) events.now) }
+        // Whatever the result, a crash at any moment leaves the history from before, and of these events what the sync mode promises; and
+        // no other file, unless the crash tears the byte that opens the first batch.
+        ensures any_moment { LeavesRecording D.disk self.old self.new (start_of_file self.old table.now checkpoint.entry) events.now }
+        // A batch that is too long is refused, and nothing is written.
+        ensures refused { RefusesLongEvents self.old self.new (start_of_file self.old table.now checkpoint.entry) events.now result }
+        // The call fails only if the disk does, if memory runs out, or if the batch or the file is too long.
+        ensures fault { RecordsUnless D.disk self.old self.new (start_of_file self.old table.now checkpoint.entry) events.now result }
+        // The file is synced as before, and its format is the one of before.
         ensures sync { self.new.journal.sync ≡ self.old.journal.sync }
         ensures format { self.new.format ≡ self.old.format }
     {

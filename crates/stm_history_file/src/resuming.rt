@@ -1,7 +1,7 @@
 //! A file of a history, opened again.
 
 ghost use Rattle.std.specs.Prelude.{◌≡◌, ◌<◌, ◌+◌, ◌^◌, None, Some, IsTrue, IfOk, IfErr, IfSome, length, take, drop};
-ghost use Rattle.stm_event_lines.specs.Lines.{latest_format};
+ghost use Rattle.stm_event_lines.specs.Lines.{table_format};
 ghost use Rattle.stm_history.specs.Loading.{ReportsLoadFault, IsResumable};
 ghost use Rattle.stm_history_text.specs.Starts.{BlocksAreOfText};
 ghost use Rattle.stm_history.specs.declared.loading.Loaded.{Loaded as AnyLoaded};
@@ -12,7 +12,7 @@ ghost use Rattle.stm_history_file.specs.Durable.{OpensAs, FailsToOpen, LoadsFron
 
 use crate::recording::{HISTORY_FRONT, HistoryFile};
 use std::alloc::Global;
-use stm_event_lines::formats::LATEST_FORMAT;
+use stm_event_lines::formats::TABLE_FORMAT;
 use stm_history::{LoadFault, Loaded, load_history};
 use stm_journal::{Device, FileReader, Found, Journal, JournalError, SyncMode, inspect, repair};
 use stm_store::Seed;
@@ -133,14 +133,14 @@ fn judge<D: Device>(
     }
 }
 
-/// The format of a file of which this was loaded: of one without a history the latest.
+/// The format of a file of which this was loaded: of one without a history, the format of tables.
 fn format_of(loaded: &Option<Loaded>) -> u32
-    ensures none { loaded.now ≡ None → result ≡ latest_format }
+    ensures none { loaded.now ≡ None → result ≡ table_format }
     ensures some { (h : AnyLoaded) → loaded.now ≡ Some h → result ≡ h.format }
 {
     match loaded {
         Some(loaded) => loaded.format,
-        None => LATEST_FORMAT,
+        None => TABLE_FORMAT,
     }
 }
 
@@ -188,9 +188,8 @@ fn repaired<D: Device>(
 /// A crash may come at any moment of it. After a sync that failed, settle the device first. The names of variables are looked up
 /// under the seed.
 ///
-/// It judges before it cuts, and the first of these is the error: the disk, memory or the file's length; another file; the
-/// first error of its lines, or their format; a torn end of more than 1 MiB. An error returns the device, and the file is as it was,
-/// unless the disk failed.
+/// It judges before it cuts: the file's length, whether it is another file, its lines and their format, and whether its torn end is
+/// longer than 1 MiB. An error returns the device; the file then has the same lines, and is as it was if it was judged.
 pub fn open_history<D: Device>(
     alloc: Global,
     seed: Seed,

@@ -1,5 +1,6 @@
 -- Where a history begins: with the first values of a table's variables, or from a checkpoint.
-use Rattle.std.specs.Prelude.{◌≡◌, ◌⊎◌, ℕ, ⊤, Bool, true, false, not, ◌&&◌, ◌||◌, length, if◌then◌else◌, List, [], ◌∷◌, Option, Some, None, Ok, is_some, option_map}
+use Rattle.std.specs.Prelude.{◌≡◌, ◌⊎◌, ℕ, ⊤, Bool, true, false, not, ◌&&◌, ◌||◌, length, if◌then◌else◌, List, [], ◌∷◌, Option, Some, None, Ok, is_some, option_copied, option_map}
+use Rattle.std.specs.Borrow.{Bor}
 use Rattle.std.specs.Bool.{◌==◌}
 use Rattle.std.specs.List.{list_all, list_any}
 use Rattle.stm_store.specs.Naming.{Named, is_gapless}
@@ -13,7 +14,7 @@ use Rattle.stm_events.specs.SlowDesk.{Slow, state_from}
 use Rattle.stm_machine.specs.declared.checkpoint.CheckpointBlock.{CheckpointBlock}
 use Rattle.stm_machine.specs.Checkpoints.{CheckpointView, started_by}
 use Rattle.stm_event_lines.specs.CheckpointLines.{checkpoint_format}
-use Rattle.stm_event_lines.specs.Lines.{declaring_format, latest_format, rule_of}
+use Rattle.stm_event_lines.specs.Lines.{declaring_format, table_format, rule_of}
 use Rattle.stm_source.specs.CompiledBlock.{compiled_block}
 
 -- the format of the text, the table of the variables that are declared first, and the checkpoint that the history begins from, if it does
@@ -22,14 +23,18 @@ pub record Start : Type 0 where
   pub table : List Declared
   pub checkpoint : Option CheckpointView
 
+-- where a history in the format begins with this table and, if it does, from a checkpoint that is lent
+abbrev pub lent_start : ℕ → List Declared → Option (Bor CheckpointView) → Start
+lent_start format table checkpoint = record { format = format; table = table; checkpoint = option_copied checkpoint }
+
 -- the state in which the history begins, by the rule of its format
 abbrev pub first_state : Start → Slow
 first_state s = started_by (rule_of s.format) s.table s.checkpoint
 
 -- a history goes by the present rule: it is in a format that is written, or begins from a checkpoint
-abbrev pub IsLatest : ℕ → Option CheckpointView → Type 0
-IsLatest format None = (format ≡ latest_format) ⊎ (format ≡ declaring_format)
-IsLatest format (Some c) = Unit {0}
+abbrev pub GoesByPresentRule : ℕ → Option CheckpointView → Type 0
+GoesByPresentRule format None = (format ≡ table_format) ⊎ (format ≡ declaring_format)
+GoesByPresentRule format (Some c) = Unit {0}
 
 -- the state after these events
 abbrev pub state_after_start : Start → List Event → Slow
@@ -76,16 +81,16 @@ are_plain_blocks blocks = list_all (λ b. is_plain_block b.cause b.label) blocks
 -- the format of a start whose history declares no variable and labels no block: a checkpoint has its own one, or that of late
 -- declarations if a name comes after a variable without one, or if a block has a label, or if it is known why one is stale
 abbrev pub format_of_start : Option CheckpointView → ℕ
-format_of_start None = latest_format
+format_of_start None = table_format
 format_of_start (Some c) = if is_gapless c.names && are_plain_blocks c.blocks then checkpoint_format else declaring_format
 
 -- the format in which a history is written
 abbrev pub format_for : Option CheckpointView → List Event → ℕ
 format_for checkpoint history = if declares history || labels_blocks history then declaring_format else format_of_start checkpoint
 
--- the start of a history over a table, in the latest format
+-- the start of a history over a table, in the format of tables
 abbrev pub table_start : List Declared → Start
-table_start table = record { format = latest_format; table = table; checkpoint = None }
+table_start table = record { format = table_format; table = table; checkpoint = None }
 
 -- the start of a history as it is written
 abbrev pub written_start : List Declared → Option CheckpointView → List Event → Start

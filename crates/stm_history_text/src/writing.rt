@@ -7,14 +7,14 @@ ghost use Rattle.stm_event_lines.specs.CheckpointLines.{cell_line, checkpoint_he
 ghost use Rattle.stm_event_lines.specs.Lines.{header_line};
 ghost use Rattle.stm_history_text.specs.HistoryText.{block_line, block_lines, cell_lines, checkpoint_text, event_lines, head_text, history_text, start_text, variable_lines};
 ghost use Rattle.stm_lines.specs.WrittenFronts.{WritesText};
-ghost use Rattle.stm_history_text.specs.Starts.{are_plain_blocks, declares, delivery_of_block, format_for, format_of_start, is_declaration, is_labelling, labels_blocks, written_start};
+ghost use Rattle.stm_history_text.specs.Starts.{are_plain_blocks, declares, delivery_of_block, format_for, format_of_start, is_declaration, is_labelling, labels_blocks, lent_start, written_start};
 
 use std::alloc::Global;
 use std::io::Write;
 use stm_event_lines::checkpoint::{
     DeliveredParts, WaitingLine, cell_text, checkpoint_header_text, waiting_line_text,
 };
-use stm_event_lines::formats::{CHECKPOINT_FORMAT, DECLARING_FORMAT, LATEST_FORMAT};
+use stm_event_lines::formats::{CHECKPOINT_FORMAT, DECLARING_FORMAT, TABLE_FORMAT};
 use stm_event_lines::write::{event_text, header_text, variable_text};
 use stm_events::event::{Event, What};
 use stm_lines::output;
@@ -85,7 +85,7 @@ fn format_of_start(checkpoint: Option<&Checkpoint>) -> u32
     ensures { result ≡ format_of_start (option_copied checkpoint.entry) }
 {
     match checkpoint {
-        None => LATEST_FORMAT,
+        None => TABLE_FORMAT,
         Some(checkpoint) => {
             if checkpoint.names().is_gapless() && are_plain_blocks(checkpoint.blocks()) {
                 CHECKPOINT_FORMAT
@@ -377,8 +377,8 @@ fn write_checkpoint<W: Write>(
     }
 }
 
-/// Writes the lines before the events, in a format: those of a table, or those of a checkpoint. The format has to be one in which the
-/// text is read: 1, 2, 3 or 5 without a checkpoint, and 5 or that of `format_for` with one.
+/// Writes the lines before the events, in a format: those of a table, or those of a checkpoint. Any format is written; the text is read
+/// again only in one of `FormatFits`: 1, 2, 3 or 5 without a checkpoint, and 5 or that of `format_for` with one.
 pub fn write_start<W: Write>(
     alloc: Global,
     writer: &mut W,
@@ -388,7 +388,7 @@ pub fn write_start<W: Write>(
 ) -> Result<(), WriteFault>
     // The whole text was written, or after a fault a part from its front.
     ensures { WritesText result (W.contents writer.old) (W.contents writer.new)
-        (start_text (record { format = format; table = table.now; checkpoint = option_copied checkpoint.entry })) }
+        (start_text (lent_start format table.now checkpoint.entry)) }
 {
     match checkpoint {
         None => write_table(alloc, writer, format, table),

@@ -2,11 +2,10 @@
 
 ghost use Rattle.std.specs.Prelude.{◌≡◌, ◌⊎◌, ◌<◌, ◌≤◌, [], true, false, IsTrue, MatchBool, length, take, drop, OnOk, IfOk, IsErrOf};
 ghost use Rattle.stm_event_lines.specs.Lines.{declaring_format};
-ghost use Rattle.stm_events.specs.SlowDesk.{Slow};
 ghost use Rattle.stm_history_text.specs.HistoryText.{history_text};
 ghost use Rattle.stm_history_text.specs.Starts.{format_for};
 ghost use Rattle.stm_journal.specs.Disk.{LeavesOnly};
-ghost use Rattle.stm_history_file.specs.Durable.{FitLines, KeepsAny, KeepsSome, KeepsHistory, KeepsEach, Records, LeavesHistory, LeavesOldOrAll};
+ghost use Rattle.stm_history_file.specs.Durable.{CanBeRecorded, KeepsAny, KeepsSome, KeepsHistory, KeepsEach, Records, LeavesHistory, LeavesOldOrAll};
 ghost use Rattle.stm_run.specs.declared.console.Console.TheVariants.{Open};
 ghost use Rattle.stm_run.specs.ConsoleState.{events_of};
 ghost use Rattle.stm_journaled_run.specs.DurableRun.{RecordsUnlessDisk, KeepsConsole, start_in};
@@ -37,7 +36,7 @@ fn record_after<D: Device>(
     file: &mut HistoryFile<D>,
 ) -> Result<(), JournalError>
     requires kept { KeepsSome D.disk file.old (start_in format (Open desk.now)) }
-    requires fit { (s : Slow) × FitLines (start_in format (Open desk.now)) s events.now }
+    requires fit { CanBeRecorded (start_in format (Open desk.now)) events.now }
     requires format { file.old.format ≡ format }
     ensures recorded { OnOk result (Records D.disk file.old file.new (start_in format (Open desk.now)) events.now) }
     ensures begun { OnOk result (file.new.begun ≡ true) }
@@ -60,7 +59,7 @@ fn record_batch<D: Device>(
 ) -> Result<bool, JournalError>
     requires kept { KeepsSome D.disk file.old (start_in format (Open desk.now)) }
     requires begun { IsTrue D.disk.is_honest → file.old.begun ≡ true }
-    requires fit { (s : Slow) × FitLines (start_in format (Open desk.now)) s events.now }
+    requires fit { CanBeRecorded (start_in format (Open desk.now)) events.now }
     requires format { file.old.format ≡ format }
     ensures recorded { IfOk result (λ done. MatchBool done
         (Records D.disk file.old file.new (start_in format (Open desk.now)) events.now)
@@ -98,7 +97,7 @@ fn record_batches<D: Device>(
 ) -> Result<(), JournalError>
     requires kept { KeepsSome D.disk file.old (start_in format (Open desk.now)) }
     requires begun { IsTrue D.disk.is_honest → file.old.begun ≡ true }
-    requires fit { (s : Slow) × FitLines (start_in format (Open desk.now)) s events.now }
+    requires fit { CanBeRecorded (start_in format (Open desk.now)) events.now }
     requires format { file.old.format ≡ format }
     ensures recorded { OnOk result (Records D.disk file.old file.new (start_in format (Open desk.now)) events.now) }
     ensures begun { OnOk result (IsTrue D.disk.is_honest → file.new.begun ≡ true) }
@@ -123,7 +122,7 @@ fn begin_file<D: Replace + Drop>(
     file: &mut HistoryFile<D>,
 ) -> Result<(), JournalError>
     requires kept { KeepsSome D.disk file.old (start_in format (Open desk.now)) }
-    requires fit { (s : Slow) × FitLines (start_in format (Open desk.now)) s [] }
+    requires fit { CanBeRecorded (start_in format (Open desk.now)) [] }
     requires format { file.old.begun ≡ true → file.old.format ≡ format }
     ensures kept { OnOk result (KeepsEach D.disk file.old file.new (start_in format (Open desk.now))) }
     ensures begun { OnOk result (file.new.begun ≡ true) }
@@ -150,7 +149,7 @@ fn record_from<D: Replace + Drop>(
 ) -> Result<usize, JournalError>
     requires within { recorded ≤ length desk.now.desk.history }
     requires kept { KeepsHistory D.disk file.old (start_in format (Open desk.now)) (take recorded desk.now.desk.history) }
-    requires fit { (s : Slow) × FitLines (start_in format (Open desk.now)) s (drop recorded desk.now.desk.history) }
+    requires fit { CanBeRecorded (start_in format (Open desk.now)) (drop recorded desk.now.desk.history) }
     requires format { file.old.begun ≡ true → file.old.format ≡ format }
     ensures count { IfOk result (λ n. n ≡ length desk.now.desk.history) }
     ensures recorded { OnOk result (KeepsHistory D.disk file.new (start_in format (Open desk.now)) desk.now.desk.history) }
@@ -213,7 +212,7 @@ fn record_anew<D: Replace + Drop>(
     ensures format { OnOk result (file.new.format ≡ declaring_format) }
     ensures sync { file.new.journal.sync ≡ file.old.journal.sync }
     ensures fault { RecordsUnlessDisk D.disk result }
-    ensures fit { (s : Slow) × FitLines (start_in declaring_format (Open desk.now)) s desk.now.desk.history }
+    ensures fit { CanBeRecorded (start_in declaring_format (Open desk.now)) desk.now.desk.history }
     // A crash at any moment leaves what it might have left before, or the whole new file.
     ensures any_moment { LeavesOldOrAll D.disk file.old file.new (history_text (start_in declaring_format (Open desk.now)) desk.now.desk.history) }
 {

@@ -1,6 +1,13 @@
 -- How calls of a reader are counted.
-use Rattle.std.specs.Prelude.{◌≡◌, ◌+◌}
+use Rattle.std.specs.Prelude.{◌≡◌, ℕ, ◌+◌}
 use Rattle.stm_lines.specs.declared.calls.Calls.{Calls}
+
+-- these are all calls of this reader, and this many steps are counted before them
+pub record AreAllCalls {R L : Type 0} (reader : R) (steps : ℕ) (calls : Calls R L) : Type 0 where
+  pub reader_is : calls.reader.now ≡ reader
+  pub steps_are : calls.steps.now ≡ steps
+  -- each is left
+  pub all : calls.left ≡ 4294967295
 
 -- the reader was called any number of times
 pub record CountsCalls {R L : Type 0} (old new : Calls R L) : Type 0 where

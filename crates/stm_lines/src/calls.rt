@@ -3,7 +3,7 @@
 ghost use Rattle.std.specs.Prelude.{◌≡◌, ◌↔◌, ◌<◌, IsTrue};
 ghost use Rattle.std.specs.Io.{ReadsAtMost};
 ghost use Rattle.std.specs.Io.KnownBytes.{ReadConsumes};
-ghost use Rattle.stm_lines.specs.CountedCalls.{CountsOneCall};
+ghost use Rattle.stm_lines.specs.CountedCalls.{AreAllCalls, CountsOneCall};
 
 use crate::steps::Steps;
 use std::io;
@@ -24,9 +24,7 @@ impl<'a, R: Read, L: Ledger> Calls<'a, R, L> {
     pub fn new(reader: &'a mut R, steps: &'a mut Steps<L>) -> Calls<'a, R, L>
         ensures same_reader { result.reader.ghost_name ≡ reader.entry.ghost_name }
         ensures same_steps { result.steps.ghost_name ≡ steps.entry.ghost_name }
-        ensures reader { result.reader.now ≡ reader.old }
-        ensures steps { result.steps.now ≡ steps.old }
-        ensures all { result.left ≡ u32.MAX }
+        ensures all { AreAllCalls reader.old steps.old result }
     {
         Calls {
             reader,

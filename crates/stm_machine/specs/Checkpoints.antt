@@ -15,9 +15,10 @@ use Rattle.stm_store.specs.Tables.{Declared, opened}
 use Rattle.stm_check.specs.TypedBlock.{Block}
 use Rattle.stm_eval.specs.Messages.{Holds}
 use Rattle.stm_events.specs.Delivered.{Delivered}
+use Rattle.stm_events.specs.declared.event.Event.{Event}
 use Rattle.stm_events.specs.declared.kept_cause.KeptCause.{KeptCause}
 use Rattle.stm_events.specs.KeptCauses.{KeptCauses, kept_cause_of}
-use Rattle.stm_events.specs.Labels.{Labels, AreLabels, is_label, label_of}
+use Rattle.stm_events.specs.Labels.{Labels, AreLabels, is_label, label_of, labels_from}
 use Rattle.stm_events.specs.declared.staleness.StalenessRule.{StalenessRule}
 use Rattle.stm_events.specs.declared.staleness.StalenessRule.TheVariants.{Changed}
 use Rattle.stm_events.specs.Laws.{IsWellTyped}
@@ -249,6 +250,10 @@ labels_in (b ∷ bs) = before_labels b.ticket b.label (labels_in bs)
 abbrev pub first_labels : Option CheckpointView → Labels
 first_labels None = []
 first_labels (Some c) = labels_in c.blocks
+
+-- the labels of the waiting blocks after a history: those with which it begins, as its events change them
+abbrev pub labels_of_history : Option CheckpointView → List Event → Labels
+labels_of_history checkpoint history = labels_from (first_labels checkpoint) history
 
 -- ---- where a history begins
 -- with the first values of its variables, or from a checkpoint; a rule is that of a history without one

@@ -1,15 +1,15 @@
 //! What the machine shows.
 
-ghost use Rattle.std.specs.Prelude.{◌≡◌, ◌≤◌, true, Some, length, option_map};
+ghost use Rattle.std.specs.Prelude.{◌≡◌, ◌≤◌, length, option_map};
 ghost use Rattle.std.specs.Option.{option_copied};
 ghost use Rattle.stm_queue.specs.Queue.{tickets};
 ghost use Rattle.stm_queue.specs.SortedTickets.{IsRising};
-ghost use Rattle.stm_events.specs.SlowDesk.{Waiter, Slow, is_current, find_waiter};
+ghost use Rattle.stm_events.specs.SlowDesk.{Slow, find_waiter};
 ghost use Rattle.stm_terms.specs.Limits.{max_waiting};
 ghost use Rattle.stm_events.specs.Ready.{next_ready, next_waiting};
 ghost use Rattle.stm_machine.specs.Machine.{IsAt};
 ghost use Rattle.stm_machine.specs.QueueAndIndex.{QueueIsRight};
-ghost use Rattle.stm_events.specs.BlockStatus.{shown, standing_of, read_then, read_now};
+ghost use Rattle.stm_events.specs.BlockStatus.{shown, standing_of, AreReadNow, read_then};
 ghost use Rattle.stm_machine.specs.JobsHandedOut.{block_at};
 
 use crate::machine::Machine;
@@ -46,10 +46,8 @@ impl Machine {
     pub fn reads(&self, ticket: u32) -> Option<&[(u32, Value)]>
         ensures then { (s : Slow) → IsAt self.now s
             → option_copied result ≡ read_then (find_waiter ticket s.waiters) }
-        ensures present { (s : Slow) (w : Waiter) → IsAt self.now s
-            → find_waiter ticket s.waiters ≡ Some w
-            → is_current w ≡ true
-            → option_copied result ≡ Some (read_now s.store w) }
+        ensures present { (s : Slow) → IsAt self.now s
+            → AreReadNow s ticket (option_copied result) }
     {
         match self.waiting.get(ticket) {
             None => None,

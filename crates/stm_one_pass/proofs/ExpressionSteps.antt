@@ -10,10 +10,7 @@ use Rattle.stm_parse.specs.declared.token.Lexeme.{Lexeme}
 use Rattle.stm_parse.specs.declared.token.Mark.TheVariants as mark
 use Rattle.stm_parse.specs.Terminals.{is_mark}
 use Rattle.stm_parse.specs.Grammar.{widest}
-use Rattle.stm_parse.specs.declared.cursor.Grouping.{Grouping}
-use Rattle.stm_parse.specs.declared.cursor.Grouping.TheVariants as grouping
-use Rattle.stm_parse.specs.Descent.{short_of, bracketed, atom_at, tier_at, climb_by}
-use Rattle.stm_one_pass.specs.Bounds.{right_width, next_from, climb_within}
+use Rattle.stm_parse.specs.Descent.{short_of, bracketed, atom_at, tier_at}
 use Rattle.stm_parse.proofs.DepthLevels.{inside_some}
 use Rattle.stm_check.specs.declared.checker.Checker.{Checker}
 use Rattle.stm_check.specs.CheckFunction.{wanted, given, as_wanted, wanted_right}
@@ -29,12 +26,6 @@ module _ (checker : Checker) where
   -- its variables are noted operand by operand
   pub both_uses : (op : Op) (x y : Term) (before mid after : List (ℕ × Ty)) → mid ≡ recorded_expr checker x before → after ≡ recorded_expr checker y mid → after ≡ recorded_expr checker (bin op x y) before
   both_uses op x y before mid after e f = f ∙ ap (recorded_expr checker y) e ∙ sym (record_uses_append (known_kinds checker.known.now) (named_in x) (named_in y) before)
-
--- the right side of an operator and what may follow it, whichever way its tier groups
-pub climbs_by_bounds : (g : Grouping) (k width n : ℕ) (left : RawTerm) (o : Op) (rest : List Lexeme) → climb_by g k width n left o rest ≡ climb_within (right_width g k) (next_from g k) width n left o rest
-climbs_by_bounds grouping.ToLeft k width n left o rest = refl
-climbs_by_bounds grouping.NotChained k width n left o rest = refl
-climbs_by_bounds grouping.ToRight k width n left o rest = refl
 
 -- an operand of one token
 pub atom_short : (n : ℕ) (toks rest : List Lexeme) (x : Lexeme) → toks ≡ x ∷ rest → is_mark mark.LParen x.sym ≡ false → atom_at n toks ≡ short_of x.sym x rest

@@ -1,3 +1,2 @@
 -- What was read in one pass.
-pub mod Bounds
 pub mod OnePass

@@ -13,7 +13,9 @@ use Rattle.stm_parse.specs.ParseFunction.{parsed_block}
 use Rattle.stm_store.specs.Naming.{Named}
 use Rattle.stm_check.specs.declared.checker.Checker.{Checker}
 use Rattle.stm_check.specs.Scopes.{scope, ScopeHasFewRefs, ScopeIsConsistent}
+use Rattle.stm_check.specs.TypedBlock.{Block}
 use Rattle.stm_check.specs.CheckFunction.{checked}
+use Rattle.stm_check.specs.CheckedBlock.{checked_block}
 use Rattle.stm_check.specs.CheckContext.{expr_found, act_found, recorded_expr, recorded_act}
 
 -- what the pass looks names up in is right
@@ -59,8 +61,10 @@ pub record ReadsTree (known : List Named) (text : List ℕ) (toks : List Lexeme)
   pub read : whole block_reader toks ≡ Ok tree
   pub found : checked known text [] tree ≡ Ok (x, r)
 
--- the text is of some block, which the check makes this one of this type
-pub record ReadsBlock (known : List Named) (text : List ℕ) (x : Act) (r : ActionType) : Type 0 where
+-- the text is of some tree, and the block is what the check makes of it
+pub record IsReadFrom (known : List Named) (text : List ℕ) (b : Block) : Type 0 where
   pub tree : RawAct
+  -- the text is of this tree
   pub read : parsed_block text ≡ Ok tree
-  pub found : checked known text [] tree ≡ Ok (x, r)
+  -- the block is the one of this tree
+  pub found : checked_block known text tree ≡ Ok b

@@ -7,7 +7,7 @@ ghost use Rattle.stm_terms.specs.Typing.{result_type, uses_of};
 ghost use Rattle.stm_store.specs.Naming.{known_kinds};
 ghost use Rattle.stm_parse.specs.NameTokens.{NamesOf};
 ghost use Rattle.stm_parse.specs.ParseResult.{LexesWithinLimits};
-ghost use Rattle.stm_one_pass.specs.OnePass.{ReadsTree, ReadsBlock};
+ghost use Rattle.stm_one_pass.specs.OnePass.{ReadsTree, IsReadFrom};
 
 use crate::actions::action;
 use std::alloc::Global;
@@ -70,10 +70,7 @@ fn whole_action(
 
 /// The block of a text over these names; none if the text is refused, or if memory ran out.
 pub fn block_in_one_pass(alloc: Global, known: &Names, text: &str) -> Option<Typed>
-    ensures block { IfSome result (λ b.
-        ReadsBlock known.now text.now b.tree (result_type b.result_type)) }
-    ensures uses { IfSome result (λ b. b.uses ≡ uses_of (known_kinds known.now) b.tree) }
-    ensures text { IfSome result (λ b. b.text ≡ text.now) }
+    ensures { IfSome result (IsReadFrom known.now text.now) }
 {
     let Some(toks) = tokens_within_limits(alloc, text) else {
         return None;

@@ -1,6 +1,6 @@
 //! The pass through expressions.
 
-ghost use Rattle.std.specs.Prelude.{◌≡◌, ℕ, ◌+◌, ◌<◌, ◌≤◌, length, List, IfSome, Ok, true};
+ghost use Rattle.std.specs.Prelude.{◌≡◌, ℕ, ◌<◌, ◌≤◌, length, List, IfSome, Ok, true};
 ghost use Rattle.stm_terms.specs.declared.kinds.Ty.{Ty};
 ghost use Rattle.stm_terms.specs.Ast.{term_of, bin};
 ghost use Rattle.stm_terms.specs.ParsedAst as raw;
@@ -9,7 +9,6 @@ ghost use Rattle.stm_parse.specs.Grammar.{deepest, widest, grouping_of, span_of}
 ghost use Rattle.stm_parse.specs.Descent.{short_of, bracketed, atom_at, tier_at, climb_at, climb_by};
 ghost use Rattle.stm_check.specs.CheckFunction.{wanted, given, as_wanted, wanted_right};
 ghost use Rattle.stm_check.specs.CheckContext.{expr_found, recorded_expr};
-ghost use Rattle.stm_one_pass.specs.Bounds.{right_width, next_from};
 ghost use Rattle.stm_one_pass.specs.OnePass.{CanRead, ReadsExpr};
 
 use crate::names::text_of;
@@ -19,7 +18,7 @@ use stm_check::checker::Checker;
 use stm_check::scope::find_local;
 use stm_check::types::{BOOL, INT, UNIT, as_wanted, given, reference_to, same, wanted};
 use stm_check::uses::record_use;
-use stm_parse::cursor::{Grouping, accept, expect, groups, operator};
+use stm_parse::cursor::{accept, bounds, expect, operator};
 use stm_parse::token::{Lexeme, Mark, TokenKind};
 use stm_terms::{Expr, Op, Ty, Value};
 
@@ -235,20 +234,6 @@ fn climb<'t>(
         return Some((left, kind, toks));
     }
     climb_past(checker, uses, levels, own, op, width, left, kind, rest)
-}
-
-// Below which tier the operators of the right operand are, and from which tier on more may follow it.
-fn bounds(own: u8) -> (u8, u8)
-    requires { own < widest }
-    ensures right { result.0 ≡ right_width (grouping_of own) own }
-    ensures next { result.1 ≡ next_from (grouping_of own) own }
-    ensures few { result.0 ≤ widest }
-{
-    match groups(own) {
-        Grouping::ToLeft => (own, own),
-        Grouping::NotChained => (own, own + 1),
-        Grouping::ToRight => (own + 1, own + 1),
-    }
 }
 
 // After an operator of a tier below `width`: its right side, and what may follow both. An operand of a thousand operators is read in as

@@ -9,6 +9,7 @@ use Rattle.stm_parse.specs.declared.cursor.Grouping.{Grouping}
 use Rattle.stm_parse.specs.declared.cursor.Grouping.TheVariants as grouping
 use Rattle.stm_parse.specs.Grammar.{deepest, operator_of, grouping_of}
 use Rattle.stm_parse.specs.Descent.{Reading, ◌>>=◌, op_pick, op_next, op_found, op_ahead, tail_by, tail_turn, step_from, tier_with, atom_at, tier_at, tail_at, climbs, climb_at, climb_by}
+use Rattle.stm_parse.specs.Bounds.{right_width, next_from, climb_within}
 use Rattle.stm_parse.proofs.DepthLevels.{tail_more}
 
 stays_read : {A : Type 0} (r : Reading A) → (r >>= λ a. Ok (a.0, a.1)) ≡ r
@@ -144,3 +145,9 @@ climb_more k width n left toks own o rest g low e a b f =
     ∙ ap (λ r. r >>= λ a. climbs c (suc own) n a.0 a.1) (tail_more own n left toks low ∙ ap (tail_turn (grouping_of own) (tier_at own n) (tier_at (own + 1) n) (tail_at own n) left toks) (ahead_is toks own o rest e))
     ∙ by_more (grouping_of own) own c n left o rest width refl b
     ∙ ap (λ h. climb_by h own width n left o rest) f
+
+-- the right side of an operator and what may follow it, whichever way its tier groups
+pub climbs_by_bounds : (g : Grouping) (k width n : ℕ) (left : RawTerm) (o : Op) (rest : List Lexeme) → climb_by g k width n left o rest ≡ climb_within (right_width g k) (next_from g k) width n left o rest
+climbs_by_bounds grouping.ToLeft k width n left o rest = refl
+climbs_by_bounds grouping.NotChained k width n left o rest = refl
+climbs_by_bounds grouping.ToRight k width n left o rest = refl

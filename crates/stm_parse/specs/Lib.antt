@@ -18,6 +18,7 @@ pub mod ParseFunction
 pub mod Tokenizer
 pub mod TypeFunction
 -- The words inside, for the descent and for the front of a text.
+pub mod Bounds
 pub mod Descent
 pub mod DescentResults
 pub mod Front

@@ -1,8 +1,10 @@
 //! What the descent is made of: one token of lookahead, and what is asked of the next token.
 
-ghost use Rattle.std.specs.Prelude.{◌≡◌, ◌-◌, ◌<◌, ◌≤◌, length, IfOk, IfErr, IfSome, MatchOption, MatchResult, None, Some};
-ghost use Rattle.stm_parse.specs.Grammar.{operator_of, operator_mark, grouping_of};
-ghost use Rattle.stm_parse.specs.DescentResults.{GivesReading};
+ghost use Rattle.std.specs.Prelude.{◌≡◌, ◌<◌, ◌≤◌, length, option_map, IfOk, IfSome, MatchResult};
+ghost use Rattle.std.specs.Option.{option_copied};
+ghost use Rattle.stm_parse.specs.Grammar.{operator_of, operator_mark, grouping_of, widest};
+ghost use Rattle.stm_parse.specs.Bounds.{right_width, next_from};
+ghost use Rattle.stm_parse.specs.DescentResults.{GivesReading, IsOneDeeper};
 ghost use Rattle.stm_parse.specs.Descent.{StopsAs, Leaves, accept, expect, expect_name, is_name_kind, op_ahead, unexpected, too_deep, bad_number};
 
 use crate::token::{ErrorKind, Failure, Fault, Lexeme, Mark, TokenKind};
@@ -51,8 +53,7 @@ pub fn bad_number(toks: &[Lexeme]) -> Failure
 
 /// How many levels are left one level deeper; a failure if none is left.
 pub fn one_level_deeper(levels: u8, toks: &[Lexeme]) -> Result<u8, Failure>
-    ensures left { IfOk result (λ l. (0 < levels) × (l ≡ levels - 1)) }
-    ensures none { IfErr result (λ e. (levels ≡ 0) × (e ≡ Failure.At (too_deep toks.now))) }
+    ensures { IsOneDeeper levels toks.now result }
 {
     if levels == 0 {
         Err(too_deep(toks))
@@ -63,8 +64,7 @@ pub fn one_level_deeper(levels: u8, toks: &[Lexeme]) -> Result<u8, Failure>
 
 /// The tokens after this mark, if it is the next.
 pub fn accept(mark: Mark, toks: &[Lexeme]) -> Option<&[Lexeme]>
-    ensures value { MatchOption result (accept mark toks.now ≡ None)
-        (λ rest. accept mark toks.now ≡ Some rest.now) }
+    ensures value { accept mark toks.now ≡ option_copied result }
     ensures shorter { IfSome result (λ rest. length rest.now < length toks.now) }
 {
     match toks.split_first() {
@@ -137,8 +137,7 @@ fn operator_of(sym: TokenKind) -> Option<(u8, Op)>
 
 /// The next operator with its tier, and the tokens after it.
 pub fn operator(toks: &[Lexeme]) -> Option<(u8, Op, &[Lexeme])>
-    ensures value { MatchOption result (op_ahead toks.now ≡ None)
-        (λ r. op_ahead toks.now ≡ Some (r.0, r.1, r.2.now)) }
+    ensures value { op_ahead toks.now ≡ option_map (λ r. (r.0, r.1, r.2.now)) result }
     ensures shorter { IfSome result (λ r. length r.2.now < length toks.now) }
 {
     let Some((first, rest)) = toks.split_first() else {
@@ -150,8 +149,8 @@ pub fn operator(toks: &[Lexeme]) -> Option<(u8, Op, &[Lexeme])>
     Some((tier, op, rest))
 }
 
-/// How the operators of a tier group.
-pub fn groups(tier: u8) -> Grouping
+// How the operators of a tier group.
+fn groups(tier: u8) -> Grouping
     ensures { result ≡ grouping_of tier }
 {
     match tier {
@@ -159,5 +158,20 @@ pub fn groups(tier: u8) -> Grouping
         1 => Grouping::ToLeft,
         2 => Grouping::NotChained,
         _ => Grouping::ToRight,
+    }
+}
+
+/// Below which tier the operators are that the right operand of an operator of this tier has outside of brackets, and from which tier on
+/// more may follow that operand.
+pub fn bounds(tier: u8) -> (u8, u8)
+    requires { tier < widest }
+    ensures right { result.0 ≡ right_width (grouping_of tier) tier }
+    ensures next { result.1 ≡ next_from (grouping_of tier) tier }
+    ensures few { result.0 ≤ widest }
+{
+    match groups(tier) {
+        Grouping::ToLeft => (tier, tier),
+        Grouping::NotChained => (tier, tier + 1),
+        Grouping::ToRight => (tier + 1, tier + 1),
     }
 }

@@ -1,13 +1,13 @@
 //! The descent through expressions. Each function reads a tree from the front of the tokens.
 
-ghost use Rattle.std.specs.Prelude.{◌≡◌, ◌+◌, ◌-◌, ◌<◌, ◌≤◌, ◌∷◌, length, IfOk, IfErr, pos, neg_ℤ};
+ghost use Rattle.std.specs.Prelude.{◌≡◌, ◌-◌, ◌<◌, ◌≤◌, ◌∷◌, length, IfOk, IfErr, pos, neg_ℤ};
 ghost use Rattle.stm_terms.specs.ParsedAst.{raw_term_of, bin};
 ghost use Rattle.stm_parse.specs.Grammar.{deepest, widest, greatest, grouping_of};
 ghost use Rattle.stm_parse.specs.DescentResults.{GivesReading};
 ghost use Rattle.stm_parse.specs.Descent.{in_reach, literal, bracketed, short_of, refuse, init, atom_at, tier_at, climb_at, climb_by};
 
 use crate::cursor::{
-    Grouping, Parsed, accept, bad_number, expect, groups, one_level_deeper, operator, unexpected,
+    Parsed, accept, bad_number, bounds, expect, one_level_deeper, operator, unexpected,
 };
 use crate::limits::GREATEST_WRITTEN;
 use crate::token::{Failure, Lexeme, Mark, TokenKind};
@@ -169,7 +169,8 @@ fn climb<'t>(
 
 // After an operator of a tier below `width`: its right side, and what may follow both.
 //
-// It is apart from `climb`, which mostly finds no operator, since it has many large temporaries.
+// It is apart from `climb`, which mostly finds no operator, since it has large temporaries. They are few, since an operand of a thousand
+// operators is read in as many calls within each other.
 #[cycle(expressions)]
 #[inline(never)]
 fn climb_past<'t>(
@@ -188,23 +189,10 @@ fn climb_past<'t>(
         (climb_by (grouping_of own) own width levels (raw_term_of left) op toks.now) }
     ensures no_longer { IfOk result (λ r. length r.1.now ≤ length toks.now) }
 {
-    match groups(own) {
-        Grouping::ToLeft => {
-            let (right, rest) = tier(alloc, levels, own, toks)?;
-            let both = joined(alloc, op, left, right)?;
-            climb(alloc, levels, own, width, both, rest)
-        }
-        Grouping::NotChained => {
-            let (right, rest) = tier(alloc, levels, own, toks)?;
-            let both = joined(alloc, op, left, right)?;
-            climb(alloc, levels, own + 1, width, both, rest)
-        }
-        Grouping::ToRight => {
-            let (right, rest) = tier(alloc, levels, own + 1, toks)?;
-            let both = joined(alloc, op, left, right)?;
-            climb(alloc, levels, own + 1, width, both, rest)
-        }
-    }
+    let (inner, from) = bounds(own);
+    let (right, rest) = tier(alloc, levels, inner, toks)?;
+    let both = joined(alloc, op, left, right)?;
+    climb(alloc, levels, from, width, both, rest)
 }
 
 /// The expression at the front of the tokens. `levels` is how many levels of depth are left.

@@ -52,16 +52,11 @@ pub record FirstDiffers (history : List Event) (n : ℕ) (passes : List Known) (
   pub before : (b : ℕ) → b < c → AgreesWith history b passes
   pub differs : DiffersFrom history c passes
 
--- the error of a result, if it is one
-abbrev pub close_error : {A : Type 0} → Result A CloseError → Option CloseError
-close_error (Ok x) = None
-close_error (Err e) = Some e
-
--- what the comparison of a history with the passes says, by the error that it returns, if it does
-abbrev pub ClosesAs : Option CloseError → List Event → ℕ → List Known → Type 0
-ClosesAs None history n passes = MayClose history n passes
-ClosesAs (Some PassMissing) history n passes = LacksOne n passes
-ClosesAs (Some (Differs c)) history n passes = FirstDiffers history n passes c
+-- what the comparison of a history with the passes says
+abbrev pub Compares : {A : Type 0} → Result A CloseError → List Event → ℕ → List Known → Type 0
+Compares (Ok x) history n passes = MayClose history n passes
+Compares (Err PassMissing) history n passes = LacksOne n passes
+Compares (Err (Differs c)) history n passes = FirstDiffers history n passes c
 
 -- the client is the first whose pass differs from a legal history, which has as many events as the passes
 pub record IsCompared (n : ℕ) (passes : List Known) (c : ℕ) : Type 0 where

@@ -2,16 +2,14 @@
 //! is given back wakes those for whom something changed: who waits for events after an accepted
 //! call, and who waits for a queued ticket when there may be one more.
 
-ghost use Rattle.std.specs.Prelude.{◌≡◌, ◌<◌, List, IsTrue, IfOk, OnOk, IfErr, OnErr, IfSome};
+ghost use Rattle.std.specs.Prelude.{◌≡◌, ◌<◌, IsTrue, IfOk, OnOk, IfErr, OnErr, IfSome};
 ghost use Rattle.stm_terms.specs.Names.{is_name_text};
-ghost use Rattle.stm_store.specs.Tables.{Declared};
 ghost use Rattle.stm_machine.specs.Machine.{installation_of};
-ghost use Rattle.stm_events.specs.declared.event.Event.{Event as AnyEvent};
 ghost use Rattle.stm_events.specs.declared.event.What.TheVariants.{Submitted, Cancelled, Declared as DeclaredLate};
 ghost use Rattle.stm_desk.specs.Events.{finish_of};
 ghost use Rattle.stm_pool.specs.Own.{having_done};
 ghost use Rattle.stm_pool.specs.Found.{CanBeEvaluated};
-ghost use Rattle.stm_pool.specs.Shown.{IsShown, IsPresentView};
+ghost use Rattle.stm_pool.specs.Shown.{IsShownSome, IsPresentSome};
 
 use crate::errors::ViewError;
 use crate::guarded::View;
@@ -135,8 +133,7 @@ impl<L: Ledger> SharedDesk<L> {
     /// What is there now: the store and the length of a legal history, which has this client's
     /// events and is no shorter than what it has seen. The client has seen it from then on.
     pub fn view<R: Wait>(&self, rt: &R, pass: &mut Pass<L>) -> Result<View, ViewError>
-        ensures shown { IfOk result (λ v. (table : List Declared) × (history : List AnyEvent)
-            × IsShown table history pass.old pass.new v) }
+        ensures shown { IfOk result (IsShownSome pass.old pass.new) }
         ensures unchanged { OnErr result (pass.new ≡ pass.old) }
     {
         self.lock.lock(rt).view(pass)
@@ -146,8 +143,7 @@ impl<L: Ledger> SharedDesk<L> {
     /// seen. The client has seen it from then on. It costs a copy of the store, however long the
     /// history is.
     pub fn present<R: Wait>(&self, rt: &R, pass: &mut Pass<L>) -> Result<View, ViewError>
-        ensures shown { IfOk result (λ v. (table : List Declared) × (history : List AnyEvent)
-            × IsPresentView table history pass.old pass.new v) }
+        ensures shown { IfOk result (IsPresentSome pass.old pass.new) }
         ensures unchanged { OnErr result (pass.new ≡ pass.old) }
     {
         self.lock.lock(rt).present(pass)

@@ -3,19 +3,18 @@
 ghost use Rattle.std.specs.Prelude.{◌≡◌, ◌≢◌, ◌<◌, ◌⊎◌, false, length, is_some, IsTrue, IfOk, OnOk, IfErr, OnErr, IfSome};
 ghost use Rattle.stm_terms.specs.Names.{is_name_text};
 ghost use Rattle.stm_terms.specs.UnlessNoMemory.{RefusedAs};
-ghost use Rattle.stm_store.specs.Cells.{Covers, applied_answer};
+ghost use Rattle.stm_store.specs.Cells.{Covers};
 ghost use Rattle.stm_events.specs.declared.event.What.TheVariants.{Submitted, Cancelled, Declared as DeclaredLate};
-ghost use Rattle.stm_machine.specs.Plans.{IsPlan};
 ghost use Rattle.stm_events.specs.Refusals.{without_message};
 ghost use Rattle.stm_queue.specs.Queue.{is_out, queued_again, first_queued};
 ghost use Rattle.stm_desk.specs.DeskView.{state_of};
-ghost use Rattle.stm_desk.specs.Events.{finish_of};
+ghost use Rattle.stm_desk.specs.Events.{finish_of, HasFinishedBlock};
 ghost use Rattle.stm_desk.specs.Refusals.{submit_refusal, late_declare_refusal, cancel_refusal, finish_refusal};
-ghost use Rattle.stm_pool.specs.Own.{own_of, events_in_passes};
+ghost use Rattle.stm_pool.specs.Own.{own_of, events_in_passes, having_done};
 ghost use Rattle.stm_pool.specs.Lent.{JoinsBoth, DeliversAs, TakesJob};
 ghost use Rattle.stm_pool.specs.Refused.{RefusedUnless, RefusesDeliveryUnless};
 ghost use Rattle.stm_pool.specs.Shown.{IsShown, IsPresentView};
-ghost use Rattle.stm_pool.specs.Closing.{close_error, ClosesAs, MayClose, IsCloseError};
+ghost use Rattle.stm_pool.specs.Closing.{Compares, MayClose, IsCloseError};
 
 use crate::errors::{CloseError, ViewError};
 use crate::pass::{Pass, audit_passes, find_pass, is_own, lacks_one};
@@ -142,12 +141,9 @@ impl<L: Ledger> Guarded<L> {
 
     /// `Desk::finish`; the event joins the pass's list too.
     pub fn finish(&mut self, pass: &mut Pass<L>, ticket: u32) -> Result<Finish, FinishError>
-        ensures accepted { IfOk result (λ f.
-            JoinsBoth self.old.desk self.new.desk pass.old pass.new (finish_of ticket f)) }
-        ensures plan { IfOk result (λ f.
-            IsPlan (state_of self.old.desk) ticket f.verdict f.applied.first_new f.stale) }
-        ensures applied { IfOk result (λ f.
-            f.applied ≡ applied_answer (state_of self.old.desk).store f.verdict) }
+        ensures accepted { IfOk result
+            (HasFinishedBlock pass.old.client ticket self.old.desk self.new.desk) }
+        ensures own { IfOk result (λ f. pass.new ≡ having_done pass.old (finish_of ticket f)) }
         ensures refused { RefusedAs FinishError.NoMemory (finish_refusal self.old.desk ticket) result }
         ensures unchanged { OnErr result ((self.new.desk ≡ self.old.desk) × (pass.new ≡ pass.old)) }
         ensures same { self.new.stopped ≡ self.old.stopped }
@@ -269,7 +265,7 @@ impl<L: Ledger> Guarded<L> {
     /// Whether these are the passes of `count` clients, in any order, and each has its client's
     /// events.
     pub fn agrees(&self, passes: &[Pass<L>], count: u32) -> Result<(), CloseError>
-        ensures { ClosesAs (close_error result) self.now.desk.history count passes.now }
+        ensures { Compares result self.now.desk.history count passes.now }
     {
         if lacks_one(passes, count) {
             return Err(CloseError::PassMissing);

@@ -120,7 +120,8 @@ pub fn run_storm<R: Threads + Wait + Sync>(
     levels: u32,
     max_events: u32,
 ) -> Result<StormEnd, NoMemory>
-    requires few { (vec_len sections ≤ max_sections) × ((0 < workers) × (workers ≤ max_workers)) }
+    requires few { vec_len sections ≤ max_sections }
+    requires workers { (0 < workers) × (workers ≤ max_workers) }
     requires levels { levels ≤ max_levels }
     requires events { max_events ≤ most_events }
     ensures len { IfOk result (λ e. vec_len e.counts ≡ vec_len sections) }

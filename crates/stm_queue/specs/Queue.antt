@@ -1,5 +1,5 @@
 -- The tickets that are to be evaluated: each is queued, or out with someone who evaluates its block.
-use Rattle.std.specs.Prelude.{ℕ, Bool, true, false, not, ◌&&◌, nat_lt, nat_eq, List, [], ◌∷◌, map, Option, Some, None, if◌then◌else◌}
+use Rattle.std.specs.Prelude.{ℕ, ◌+◌, Bool, true, false, not, ◌&&◌, nat_lt, nat_eq, List, [], ◌∷◌, map, Option, Some, None, if◌then◌else◌}
 use Rattle.std.specs.List.{list_any, filter}
 
 -- a ticket, and whether it is out
@@ -35,6 +35,10 @@ with_ticket t es = with_entry (t, false) es
 -- the other tickets
 abbrev pub without_ticket : ℕ → List Entry → List Entry
 without_ticket t es = filter (λ e. not (nat_eq t e.0)) es
+
+-- the queue without the ticket; if it was in the list, there is room for one more
+abbrev pub removed : ℕ → Queue → Queue
+removed t q = record { entries = without_ticket t q.entries; room = if has_ticket t q.entries then q.room + 1 else q.room }
 
 -- the ticket, if it is in the list, is now out, or now queued
 abbrev pub marked : ℕ → Bool → List Entry → List Entry

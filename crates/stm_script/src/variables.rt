@@ -1,6 +1,6 @@
 //! The variables of a script.
 
-ghost use Rattle.std.specs.Prelude.{◌≡◌, ◌<◌, ◌-◌, [], length, take, OnOk};
+ghost use Rattle.std.specs.Prelude.{◌≡◌, ◌<◌, ◌-◌, ◌⊎◌, [], length, take, OnErr, OnOk};
 ghost use Rattle.stm_source.specs.DeclaredVariable.{variable_of};
 ghost use Rattle.stm_store.specs.Naming.{named_in_table};
 ghost use Rattle.stm_script.specs.ScriptReading.{DeclaresNext};
@@ -74,10 +74,11 @@ impl Variables {
         self.table
     }
 
-    /// Declares the variable of a text after the others. Without memory for its name no variable is left, which no clause
-    /// says.
+    /// Declares the variable of a text after the others. Without memory for its name no variable is left.
     pub fn declare(&mut self, alloc: Global, text: &str) -> Result<(), Refusal>
-        ensures { DeclaresNext self.old result self.new (variable_of self.old text.now) }
+        ensures next { DeclaresNext self.old result self.new (variable_of self.old text.now) }
+        // None is left only if memory ran out: `next` says so.
+        ensures left { OnErr result ((self.new ≡ self.old) ⊎ (self.new ≡ [])) }
     {
         let Variables { table, names } = self;
         match declare(alloc, table, text) {

@@ -2,6 +2,5 @@ mod CompiledTexts
 mod DeclaredTexts
 pub mod LaterNames
 mod OneAnswer
-pub mod OnePass
 pub mod PreparedBlocks
 pub mod UsesAreCovered

@@ -1,3 +1,4 @@
--- The waiting blocks as their places have them, and the search of a place.
+-- The waiting blocks as their places have them, the search of a place, and which tickets a set has.
 pub mod Placed
 pub mod Searched
+pub mod TicketMembers

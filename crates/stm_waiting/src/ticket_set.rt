@@ -1,8 +1,8 @@
 //! A set of tickets. The machine keeps in one the blocks that could finish now.
 
-ghost use Rattle.std.specs.Prelude.{◌≡◌, ℕ, ◌<◌, ◌&&◌, ◌||◌, [], false, not, nat_eq, OnOk};
-ghost use Rattle.std.specs.List.{list_any};
-ghost use Rattle.stm_queue.specs.SortedTickets.{member, next_after, IsRising};
+ghost use Rattle.std.specs.Prelude.{◌≡◌, ◌<◌, [], false, OnOk};
+ghost use Rattle.stm_queue.specs.SortedTickets.{member, delete, next_after, IsRising};
+ghost use Rattle.stm_waiting.specs.TicketSets.{with_if, without_all};
 
 use std::alloc::{AllocError as NoMemory, Global};
 use std::collections::VecDeque;
@@ -62,8 +62,7 @@ impl TicketSet {
     pub fn add_if(&mut self, wanted: bool, ticket: u32)
         requires absent { member ticket self.old.tickets ≡ false }
         requires room { 0 < self.old.room }
-        ensures { (u : ℕ) → member u self.new.tickets
-            ≡ ((wanted && nat_eq u ticket) || member u self.old.tickets) }
+        ensures { self.new.tickets ≡ with_if wanted ticket self.old.tickets }
     {
         if wanted {
             put_in(&mut self.tickets, ticket);
@@ -72,8 +71,7 @@ impl TicketSet {
 
     /// The ticket isn't in the set any more.
     pub fn remove(&mut self, ticket: u32)
-        ensures { (u : ℕ) → member u self.new.tickets
-            ≡ (member u self.old.tickets && not (nat_eq u ticket)) }
+        ensures { self.new.tickets ≡ delete ticket self.old.tickets }
     {
         if has_ticket_in(&self.tickets, ticket) {
             let _ = take_out(&mut self.tickets, ticket);
@@ -82,8 +80,7 @@ impl TicketSet {
 
     /// These tickets aren't in the set any more.
     pub fn remove_all(&mut self, tickets: &[u32])
-        ensures { (u : ℕ) → member u self.new.tickets
-            ≡ (member u self.old.tickets && not (list_any (nat_eq u) tickets.now)) }
+        ensures { self.new.tickets ≡ without_all tickets.now self.old.tickets }
     {
         // In a herd that becomes stale no block could finish.
         if self.tickets.is_empty() {

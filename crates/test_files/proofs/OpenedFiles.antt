@@ -41,7 +41,7 @@ events_fit format s (e ∷ es) are = (are.0, are.1, events_fit format (after s e
 
 fits_before : (format : ℕ) (table : List Declared) (o : Option CheckpointView) → IsBefore format table o → FormatFits format o × FitsBefore table o
 fits_before format table None is = (is.0, is.2)
-fits_before format table (Some c) is = let r = is.1 in ((r.is_format, r.gapless, r.plain), r.fits)
+fits_before format table (Some c) is = let r = is.1 in (r.format_fits, r.fits)
 
 -- what has a text can be in lines
 pub fits_again : (start : Start) (events : List Event) → HasText start events → FitLines start (first_state start) events

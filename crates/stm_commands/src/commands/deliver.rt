@@ -1,12 +1,14 @@
 //! `deliver`: what a job's block does is delivered.
 
-ghost use Rattle.std.specs.Prelude.{◌≡◌, ◌+◌, Some};
+ghost use Rattle.std.specs.Prelude.{◌≡◌, ◌+◌, List, map, option_map, IfSome, Some};
+ghost use Rattle.std.specs.Option.{option_copied};
+ghost use Rattle.stm_events.specs.SlowDesk.{Waiter};
 ghost use Rattle.stm_events.specs.States.{IsLegalFrom};
 ghost use Rattle.stm_machine.specs.Checkpoints.{MayStart};
 ghost use Rattle.stm_desk.specs.DeskView.{start_state, state_of};
 ghost use Rattle.stm_commands.specs.Jobs.{job_at, delivered_line, deliver_job_step, deliver_step};
 ghost use Rattle.stm_commands.specs.OpenDesk.{on_desk};
-ghost use Rattle.stm_commands.specs.OpenInvariant.{job_kept, HasStore, JobStands, HasGrown};
+ghost use Rattle.stm_commands.specs.OpenInvariant.{job_kept, HasStore, HaveStores, JobStands, HasGrown};
 ghost use Rattle.stm_commands.specs.Printing.{Prints, TakesStep};
 
 use crate::delivery::{deliver_job, refused_unevaluated};
@@ -60,13 +62,25 @@ fn deliver_kept(
     }
 }
 
+/// The job of a number, with what a delivery asks of it.
+fn kept_job(jobs: &[KeptJob], number: u32) -> Option<&KeptJob>
+    // Seen with the stores at their `take`, it is the job of this number.
+    ensures kept { option_map job_kept (option_copied result)
+        ≡ job_at number (map job_kept jobs.now) }
+    // If each of these jobs whose ticket waits has its store, so has this one.
+    ensures stored { (ws : List Waiter) → HaveStores ws jobs.now
+        → IfSome (option_copied result) (λ k. HasStore ws k) }
+{
+    job_of_number(jobs, number)
+}
+
 impl OpenDesk {
     /// Delivers what the block of a job does on the store of its `take`.
     fn deliver(&mut self, alloc: Global, number: u32, out: &mut String) -> Result<(), NoMemory>
         ensures { TakesStep result self.new out.old out.new
             (on_desk self.old (deliver_job_step self.old.desk (job_at number self.old.jobs))) }
     {
-        match job_of_number(&self.jobs, number) {
+        match kept_job(&self.jobs, number) {
             Some(kept) => deliver_kept(&mut self.desk, alloc, kept, out),
             None => refuse("NoJob", out),
         }

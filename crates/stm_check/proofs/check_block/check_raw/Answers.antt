@@ -6,17 +6,15 @@ use Rattle.stm_check.proofs.TypedBlockInvariant.{kept_type, kept_small}
 use Rattle.stm_check.proofs.BlocksOfChecks.{block_made, block_refused}
 use Rattle.stm_check.proofs.check_block.check_raw.Goals as goal
 
-pub of_checked-requires-clause-typed : goal.of_checked-requires-clause-typed
-of_checked-requires-clause-typed c =
+pub of_checked-requires : goal.of_checked-requires
+of_checked-requires c =
     let says = rw c.as_str.ensures.value at c.in_ok-action.ensures.says in
-    kept_type c.args.known.now (string_bytes c.args.text) (raw_act_of c.args.raw.now) (act_of c.in_ok-action.action) (result_type c.in_ok-action.kind) c.in_ok-action.uses.items says c.in_ok-action.ensures.uses
-
-pub of_checked-requires-clause-few : goal.of_checked-requires-clause-few
-of_checked-requires-clause-few c =
-    let says = rw c.as_str.ensures.value at c.in_ok-action.ensures.says in
-    let few : makes (act_of c.in_ok-action.action) ≤ actions (raw_act_of c.args.raw.now) =
+    let small : makes (act_of c.in_ok-action.action) ≤ actions (raw_act_of c.args.raw.now) =
     kept_small c.args.known.now (string_bytes c.args.text) (raw_act_of c.args.raw.now) (act_of c.in_ok-action.action) (result_type c.in_ok-action.kind) says in
-    omega arith
+    record {
+      typed = kept_type c.args.known.now (string_bytes c.args.text) (raw_act_of c.args.raw.now) (act_of c.in_ok-action.action) (result_type c.in_ok-action.kind) c.in_ok-action.uses.items says c.in_ok-action.ensures.uses;
+      few = omega (arith, small, c.requires.few);
+    }
 
 pub returns : goal.returns
 returns c =

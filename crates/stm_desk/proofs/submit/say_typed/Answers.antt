@@ -5,5 +5,5 @@ use Rattle.stm_desk.proofs.submit.say_typed.Goals as goal
 
 pub returns : goal.returns
 returns c =
-    let typed : IsWellTyped c.block.result.now = (result_type c.block.result.now.result_type, c.action-action.ensures.typed) in
+    let typed : IsWellTyped c.block.result.now = (result_type c.block.result.now.result_type, c.action-action.ensures.typed.typed) in
     subst IsWellTyped c.block.ensures typed

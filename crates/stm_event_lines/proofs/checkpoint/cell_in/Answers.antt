@@ -4,7 +4,8 @@ use Rattle.std.proofs.lemmas.Slice.Eq.{bytes_eq-Decides}
 use Rattle.serde_json.specs.View.{view}
 use Rattle.stm_store.specs.declared.cell.Cell.{Cell}
 use Rattle.stm_event_lines.specs.CheckpointLines.{cell_line, FitsName}
-use Rattle.stm_event_lines.specs.CheckpointFields.{cell_of, cell_parts}
+use Rattle.stm_event_lines.specs.CheckpointFields.{cell_of}
+use Rattle.stm_event_lines.specs.ReadLines.{cell_parts}
 use Rattle.stm_event_lines.proofs.checkpoint.cell_in.Goals as goal
 
 pub returns-in_default-clause-bad : goal.returns-in_default-clause-bad

@@ -1,6 +1,6 @@
 use Rattle.std.proofs.Common.{Err, ap}
 use Rattle.serde_json.specs.View.{view}
-use Rattle.stm_event_lines.specs.CheckpointFields.{cell_parts}
+use Rattle.stm_event_lines.specs.ReadLines.{cell_parts}
 use Rattle.stm_event_lines.specs.CheckpointLines.{FitsNamedCell, line_of_cell}
 use Rattle.stm_event_lines.proofs.Checkpoints.{cell_unread, cell_is}
 use Rattle.stm_event_lines.proofs.ReadAs.{reads_as}

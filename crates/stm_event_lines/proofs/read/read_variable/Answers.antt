@@ -2,7 +2,7 @@ use Rattle.std.proofs.Common.{Err, ap}
 use Rattle.serde_json.specs.View.{view}
 use Rattle.stm_event_lines.specs.Fits.{FitsVariable}
 use Rattle.stm_event_lines.specs.Lines.{variable_line}
-use Rattle.stm_event_lines.specs.Variables.{declared}
+use Rattle.stm_event_lines.specs.ReadLines.{declared}
 use Rattle.stm_event_lines.proofs.ReadAs.{reads_as}
 use Rattle.stm_event_lines.proofs.ReadsBack.{variable_unread, variable_is}
 use Rattle.stm_event_lines.proofs.read.read_variable.Goals as goal

@@ -9,7 +9,7 @@ use Rattle.stm_terms.specs.declared.values.Value.{Value}
 use Rattle.stm_store.specs.Tables.{Declared}
 use Rattle.stm_event_lines.specs.Lines.{variable_line}
 use Rattle.stm_event_lines.specs.Fields.{declared_from_json}
-use Rattle.stm_event_lines.specs.Variables.{declared}
+use Rattle.stm_event_lines.specs.ReadLines.{declared}
 use Rattle.stm_event_lines.proofs.read.variable_in.Goals as goal
 
 -- a variable by its parts

@@ -3,7 +3,7 @@ use Rattle.std.specs.Prelude.{option_map, string_bytes}
 use Rattle.stm_store.specs.declared.cell.Cell.{Cell}
 use Rattle.stm_store.specs.Cells.{Covers, plains}
 use Rattle.stm_store.specs.Naming.{Named, NumbersAreBelow, named_uses}
-use Rattle.stm_history.specs.Checking.{MayBeNamed, with_name_of}
+use Rattle.stm_history.specs.Progress.{MayBeNamed, with_name_of}
 use Rattle.stm_history.proofs.CellNames.{below, covered_push}
 use Rattle.stm_history.proofs.ReachedStages.{name_refused, store_refused}
 use Rattle.stm_history.proofs.beginning.take_named.Goals as goal

@@ -1,6 +1,6 @@
 use Rattle.std.proofs.Common.{◌≡◌, subst}
 use Rattle.stm_history.specs.declared.check.Stage.{Stage}
-use Rattle.stm_history.specs.Checking.{at_header, at_variables, at_cells, at_blocks}
+use Rattle.stm_history.specs.Progress.{at_header, at_variables, at_cells, at_blocks}
 use Rattle.stm_history.specs.Stages.{IsStage}
 use Rattle.stm_history.proofs.ReachedStages.{counts_at, leads_at, refused_at_stage}
 use Rattle.stm_history.proofs.check.take_first_line.Goals as goal

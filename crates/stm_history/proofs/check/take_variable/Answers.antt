@@ -2,7 +2,7 @@ use Rattle.std.proofs.Common.{ℕ, List, Err, subst}
 use Rattle.stm_terms.specs.UnlessNoMemory.{RefusedAs}
 use Rattle.stm_store.specs.declared.table.DeclareError.TheVariants.{NoMemory}
 use Rattle.stm_store.specs.Tables.{declare_refusal}
-use Rattle.stm_event_lines.specs.Variables.{declared}
+use Rattle.stm_event_lines.specs.ReadLines.{declared}
 use Rattle.stm_history.proofs.RefusedVariables.{declare_fault}
 use Rattle.stm_history.proofs.check.take_variable.Goals as goal
 

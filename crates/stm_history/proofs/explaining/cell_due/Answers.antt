@@ -1,7 +1,7 @@
 use Rattle.std.proofs.Common.{◌≡◌, ℕ, true, length, rules, arith, subst}
 use Rattle.std.specs.Prelude.{option_map, string_bytes}
 use Rattle.std.proofs.lemmas.Grind.{common_steps}
-use Rattle.stm_history.specs.Checking.{MayBeNamed}
+use Rattle.stm_history.specs.Progress.{MayBeNamed}
 use Rattle.stm_history.proofs.Explanations.{cell_head}
 use Rattle.stm_history.proofs.explaining.cell_due.Goals as goal
 

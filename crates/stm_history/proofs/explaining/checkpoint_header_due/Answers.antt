@@ -1,7 +1,7 @@
 use Rattle.std.proofs.Common.{◌≡◌, true, [], refl, sym, arith, inr}
 use Rattle.std.specs.Prelude.{string_bytes}
 use Rattle.std.proofs.lemmas.Grind.{common_steps}
-use Rattle.stm_history.specs.Checking.{at_header, with_cells}
+use Rattle.stm_history.specs.Progress.{at_header, with_cells}
 use Rattle.stm_history.proofs.Explanations.{head_line}
 use Rattle.stm_history.proofs.explaining.checkpoint_header_due.Goals as goal
 

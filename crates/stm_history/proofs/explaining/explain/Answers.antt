@@ -2,7 +2,7 @@ use Rattle.std.proofs.Common.{◌≡◌, subst}
 use Rattle.stm_history.specs.declared.check.Stage.{Stage}
 use Rattle.stm_history.specs.Stages.{IsStage}
 use Rattle.stm_history.proofs.ReachedStages.{counts_at}
-use Rattle.stm_history.specs.Checking.{at_header, at_variables, at_cells, at_blocks}
+use Rattle.stm_history.specs.Progress.{at_header, at_variables, at_cells, at_blocks}
 use Rattle.stm_history.proofs.Explanations.{explained_at, running_explained}
 use Rattle.stm_history.proofs.explaining.explain.Goals as goal
 

@@ -1,6 +1,6 @@
 use Rattle.std.proofs.Common.{[], refl, sym, arith, inl}
 use Rattle.std.specs.Prelude.{string_bytes}
-use Rattle.stm_history.specs.Checking.{at_header, with_table}
+use Rattle.stm_history.specs.Progress.{at_header, with_table}
 use Rattle.stm_history.proofs.Explanations.{head_line}
 use Rattle.stm_history.proofs.explaining.header_due.Goals as goal
 

@@ -2,7 +2,7 @@ use Rattle.std.proofs.Common.{◌≡◌, ℕ, List, None, ap, sym, ◌∙◌}
 use Rattle.stm_terms.proofs.Refused.{accepted}
 use Rattle.stm_store.specs.declared.table.DeclareError.TheVariants.{NoMemory}
 use Rattle.stm_store.specs.Tables.{declare_refusal}
-use Rattle.stm_event_lines.specs.Variables.{declared}
+use Rattle.stm_event_lines.specs.ReadLines.{declared}
 use Rattle.stm_history.proofs.Explanations.{declared_head}
 use Rattle.stm_history.proofs.explaining.variable_due.Goals as goal
 

@@ -1,6 +1,6 @@
 use Rattle.stm_history_text.specs.HistoryText.{history_text}
+use Rattle.stm_history_text.specs.Starts.{lent_start}
 use Rattle.stm_journal.proofs.Faults.{only_too_long}
-use Rattle.stm_history_file.specs.Durable.{lent_start}
 use Rattle.stm_history_file.proofs.LinesMeasured.{start_measured, short_if_ok, long_if}
 use Rattle.stm_history_file.proofs.beginning.write_new.Goals as goal
 

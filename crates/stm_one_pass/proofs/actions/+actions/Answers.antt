@@ -77,7 +77,7 @@ let_bound-returns-clause-reads t c =
 pub sequence-returns-clause-reads : goal.sequence-returns-clause-reads
 sequence-returns-clause-reads t c =
     as_body c.args.checker.now _ _ _ _ _ _ c.whole.result c.whole.ensures.tree c.whole.ensures.kind c.whole.ensures.rest
-    (sequence_read c.args.checker.now (action_at c.args.levels) (body_at c.args.levels) c.args.toks.now _ _ _ _ _ _ _ _ _ _ c.in-Some.ensures.reads (search rules) c.in-Some-body.ensures.reads)
+    (sequence_read c.args.checker.now (action_at c.args.levels) (body_at c.args.levels) c.args.toks.now _ _ _ _ _ _ _ _ _ _ c.in-Some.ensures.reads c.in-Some-accept.ensures.value c.in-Some-body.ensures.reads)
 
 pub inner-returns-clause-reads : goal.inner-returns-clause-reads
 inner-returns-clause-reads t c = as_inner_body c.args.checker.now _ (span_of c.args.name.now) c.args.kind (body_at c.args.levels c.args.toks.now) _ _ c.body.result c.body.ensures.reads refl refl (rw c.in-Some.ensures refl)

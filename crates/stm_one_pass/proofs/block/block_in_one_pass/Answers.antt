@@ -1,20 +1,19 @@
+use Rattle.std.proofs.Common.{string_bytes}
 use Rattle.stm_terms.specs.Ast.{act_of}
 use Rattle.stm_terms.specs.Typing.{result_type}
 use Rattle.stm_check.proofs.TypedBlockInvariant.{kept_type}
-use Rattle.stm_one_pass.proofs.BlockSteps.{tree_of_block, few_makes}
+use Rattle.stm_one_pass.proofs.BlockSteps.{block_read_from, few_makes}
 use Rattle.stm_one_pass.proofs.block.block_in_one_pass.Goals as goal
 
-pub of_checked-requires-clause-typed : goal.of_checked-requires-clause-typed
-of_checked-requires-clause-typed c =
+pub of_checked-requires : goal.of_checked-requires
+of_checked-requires c =
     let s = c.in-Some-whole_action in
-    kept_type c.args.known.now c.args.text.now s.ensures.tree.tree (act_of s.action) (result_type s.kind) _ s.ensures.tree.found s.ensures.uses
+    record {
+      typed = kept_type c.args.known.now c.args.text.now s.ensures.tree.tree (act_of s.action) (result_type s.kind) _ s.ensures.tree.found s.ensures.uses;
+      few = few_makes c.args.known.now c.args.text.now c.in-Some.toks.items (act_of s.action) (result_type s.kind) c.in-Some.ensures.right c.in-Some.ensures.names (rw c.deref.ensures.value at s.ensures.tree);
+    }
 
-pub of_checked-requires-clause-few : goal.of_checked-requires-clause-few
-of_checked-requires-clause-few c =
+pub returns : goal.returns
+returns c =
     let s = c.in-Some-whole_action in
-    few_makes c.args.known.now c.args.text.now c.in-Some.toks.items (act_of s.action) (result_type s.kind) c.in-Some.ensures.right c.in-Some.ensures.names (rw c.deref.ensures.value at s.ensures.tree)
-
-pub returns-clause-block : goal.returns-clause-block
-returns-clause-block c =
-    let s = c.in-Some-whole_action in
-    rw c.of_checked.ensures (tree_of_block c.args.known.now c.args.text.now c.in-Some.toks.items (act_of s.action) (result_type s.kind) c.in-Some.ensures.right (rw c.deref.ensures.value at s.ensures.tree))
+    rw c.of_checked.ensures (block_read_from c.args.known.now c.args.text.now c.in-Some.toks.items (act_of s.action) (string_bytes c.in-Ok.own) s.kind _ c.in-Some.ensures.right (rw c.deref.ensures.value at s.ensures.tree) s.ensures.uses c.in-Ok.ensures.ok)

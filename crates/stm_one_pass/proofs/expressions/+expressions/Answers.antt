@@ -2,15 +2,15 @@
 use Rattle.std.proofs.Common.{arith, rules, refl, inl, inr, ◌-◌}
 use Rattle.stm_terms.specs.Ast.{term_of}
 use Rattle.stm_terms.specs.ParsedAst as raw
-use Rattle.stm_parse.proofs.Climbing.{tier_from_atom, climb_ends, climb_leaves, climb_more}
+use Rattle.stm_parse.proofs.Climbing.{tier_from_atom, climb_ends, climb_leaves, climb_more, climbs_by_bounds}
 use Rattle.stm_parse.specs.Grammar.{grouping_of}
-use Rattle.stm_one_pass.proofs.ExpressionSteps.{both_found, both_uses, climbs_by_bounds, atom_short, atom_bracketed}
+use Rattle.stm_one_pass.proofs.ExpressionSteps.{both_found, both_uses, atom_short, atom_bracketed}
 use Rattle.stm_one_pass.proofs.expressions.+expressions.Goals as goal
 
 pub climb-returns-in_default-clause-reads : goal.climb-returns-in_default-clause-reads
 climb-returns-in_default-clause-reads t c = λ e before found uses. record {
   tree = e;
-  read = climb_ends c.args.from c.args.width c.args.levels e c.args.toks.now c.requires.low (search rules);
+  read = climb_ends c.args.from c.args.width c.args.levels e c.args.toks.now c.requires.low c.in_default.ensures.value;
   found = found;
   uses = uses;
 }
@@ -18,7 +18,7 @@ climb-returns-in_default-clause-reads t c = λ e before found uses. record {
 pub climb-returns-then-own-from-clause-reads : goal.climb-returns-then-own-from-clause-reads
 climb-returns-then-own-from-clause-reads t c = λ e before found uses. record {
   tree = e;
-  read = let s = c.in-Some in climb_leaves c.args.from c.args.width c.args.levels e c.args.toks.now s.own s.op s.rest.now c.requires.low (search rules)
+  read = let s = c.in-Some in climb_leaves c.args.from c.args.width c.args.levels e c.args.toks.now s.own s.op s.rest.now c.requires.low s.ensures.value
       (elim c.then-own-from.either [ inl below ↦ inl below | inr over ↦ inr over.1 ]);
   found = found;
   uses = uses;
@@ -27,7 +27,7 @@ climb-returns-then-own-from-clause-reads t c = λ e before found uses. record {
 pub climb-returns-clause-reads : goal.climb-returns-clause-reads
 climb-returns-clause-reads t c = λ e before found uses.
     let s = c.in-Some in
-    let m = climb_more c.args.from c.args.width c.args.levels e c.args.toks.now s.own s.op s.rest.now (grouping_of s.own) c.requires.low (search rules) (omega arith) (omega arith) refl in
+    let m = climb_more c.args.from c.args.width c.args.levels e c.args.toks.now s.own s.op s.rest.now (grouping_of s.own) c.requires.low s.ensures.value (omega arith) (omega arith) refl in
     rw m (c.climb_past.ensures.reads e before found uses)
 
 pub tier-returns-clause-reads : goal.tier-returns-clause-reads

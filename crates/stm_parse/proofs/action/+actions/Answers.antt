@@ -30,7 +30,7 @@ boxed_action-returns-in_ok-inner-in-Do-clause-gives t c = grind (arith, inside_a
 
 pub boxed_action-returns-in_ok-inner-in-If-clause-gives : goal.boxed_action-returns-in_ok-inner-in-If-clause-gives
 boxed_action-returns-in_ok-inner-in-If-clause-gives t c =
-    let left = c.in_ok-inner-in-If.ensures.left in
+    let left = c.in_ok-inner-in-If.ensures in
     let e = action_at_if c.args.levels c.in_ok-inner-in-If.inner c.args.toks.now c.in-Some.rest.now c.in-Some.first.now (search rules) (search rules) left.0 left.1 in
     rw e c.if_then_else.ensures.gives
 

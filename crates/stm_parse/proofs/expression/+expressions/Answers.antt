@@ -1,10 +1,10 @@
 -- One level or tier deeper, and one operator after another.
-use Rattle.std.proofs.Common.{arith, rules, refl, sym, inl, inr}
+use Rattle.std.proofs.Common.{arith, refl, inl, inr}
 use Rattle.stm_parse.specs.Grammar.{grouping_of}
 use Rattle.stm_parse.specs.Descent.{atom_at}
 use Rattle.stm_terms.specs.ParsedAst.{raw_term_of}
 use Rattle.stm_parse.proofs.DepthLevels.{inside_none, inside_some}
-use Rattle.stm_parse.proofs.Climbing.{tier_from_atom, climb_ends, climb_leaves, climb_more}
+use Rattle.stm_parse.proofs.Climbing.{tier_from_atom, climb_ends, climb_leaves, climb_more, climbs_by_bounds}
 use Rattle.stm_parse.proofs.expression.+expressions.Goals as goal
 
 pub atom-returns-in_err-inner-clause-gives : goal.atom-returns-in_err-inner-clause-gives
@@ -22,34 +22,26 @@ pub tier-returns-clause-gives : goal.tier-returns-clause-gives
 tier-returns-clause-gives t c = grind (arith, tier_from_atom)
 
 pub climb-returns-in_default-clause-gives : goal.climb-returns-in_default-clause-gives
-climb-returns-in_default-clause-gives t c = climb_ends c.args.from c.args.width c.args.levels (raw_term_of c.args.left) c.args.toks.now c.requires.low (search rules)
+climb-returns-in_default-clause-gives t c = climb_ends c.args.from c.args.width c.args.levels (raw_term_of c.args.left) c.args.toks.now c.requires.low c.in_default.ensures.value
 
 pub climb-returns-then-own-from-clause-gives : goal.climb-returns-then-own-from-clause-gives
 climb-returns-then-own-from-clause-gives t c =
     let s = c.in-Some in
-    climb_leaves c.args.from c.args.width c.args.levels (raw_term_of c.args.left) c.args.toks.now s.own s.op s.rest.now c.requires.low (search rules)
+    climb_leaves c.args.from c.args.width c.args.levels (raw_term_of c.args.left) c.args.toks.now s.own s.op s.rest.now c.requires.low s.ensures.value
     (elim c.then-own-from.either [ inl below ↦ inl below | inr over ↦ inr over.1 ])
 
 pub climb-returns-clause-gives : goal.climb-returns-clause-gives
 climb-returns-clause-gives t c =
     let s = c.in-Some in
-    let e = climb_more c.args.from c.args.width c.args.levels (raw_term_of c.args.left) c.args.toks.now s.own s.op s.rest.now (grouping_of s.own) c.requires.low (search rules) (omega arith) (omega arith) refl in
+    let e = climb_more c.args.from c.args.width c.args.levels (raw_term_of c.args.left) c.args.toks.now s.own s.op s.rest.now (grouping_of s.own) c.requires.low s.ensures.value (omega arith) (omega arith) refl in
     rw e c.climb_past.ensures.gives
 
-pub climb_past-returns-in_err-right-in-ToLeft-clause-gives : goal.climb_past-returns-in_err-right-in-ToLeft-clause-gives
-climb_past-returns-in_err-right-in-ToLeft-clause-gives t c = rw (sym c.in-ToLeft.ensures) (grind arith)
+pub climb_past-returns-in_err-right-clause-gives : goal.climb_past-returns-in_err-right-clause-gives
+climb_past-returns-in_err-right-clause-gives t c =
+    let b = c.bounds-inner.ensures in
+    rw (climbs_by_bounds (grouping_of c.args.own) c.args.own c.args.width c.args.levels (raw_term_of c.args.left) c.args.op c.args.toks.now, ← b.right, ← b.next) (grind arith)
 
-pub climb_past-returns-in_ok-both-in-ToLeft-clause-gives : goal.climb_past-returns-in_ok-both-in-ToLeft-clause-gives
-climb_past-returns-in_ok-both-in-ToLeft-clause-gives t c = rw (sym c.in-ToLeft.ensures) (grind arith)
-
-pub climb_past-returns-in_err-right-in-NotChained-clause-gives : goal.climb_past-returns-in_err-right-in-NotChained-clause-gives
-climb_past-returns-in_err-right-in-NotChained-clause-gives t c = rw (sym c.in-NotChained.ensures) (grind arith)
-
-pub climb_past-returns-in_ok-both-in-NotChained-clause-gives : goal.climb_past-returns-in_ok-both-in-NotChained-clause-gives
-climb_past-returns-in_ok-both-in-NotChained-clause-gives t c = rw (sym c.in-NotChained.ensures) (grind arith)
-
-pub climb_past-returns-in_err-right-in-ToRight-clause-gives : goal.climb_past-returns-in_err-right-in-ToRight-clause-gives
-climb_past-returns-in_err-right-in-ToRight-clause-gives t c = rw (sym c.in-ToRight.ensures) (grind arith)
-
-pub climb_past-returns-in_ok-both-in-ToRight-clause-gives : goal.climb_past-returns-in_ok-both-in-ToRight-clause-gives
-climb_past-returns-in_ok-both-in-ToRight-clause-gives t c = rw (sym c.in-ToRight.ensures) (grind arith)
+pub climb_past-returns-clause-gives : goal.climb_past-returns-clause-gives
+climb_past-returns-clause-gives t c =
+    let b = c.bounds-inner.ensures in
+    rw (climbs_by_bounds (grouping_of c.args.own) c.args.own c.args.width c.args.levels (raw_term_of c.args.left) c.args.op c.args.toks.now, ← b.right, ← b.next) (grind arith)

@@ -1,15 +1,18 @@
-use Rattle.std.proofs.Common.{rules}
+use Rattle.std.proofs.Common.{refl, rules}
 use Rattle.stm_source.proofs.CompiledTexts.{typed_block, mistyped_block, block_uses}
 use Rattle.stm_source.proofs.UsesAreCovered.{named_cover}
-use Rattle.stm_source.proofs.OnePass.{one_pass_compiles}
 use Rattle.stm_source.proofs.block.compile_block.Goals as goal
 
 pub returns-in-Some-clause-block : goal.returns-in-Some-clause-block
-returns-in-Some-clause-block c = one_pass_compiles c.args.known.now c.args.text.now c.in-Some.block c.in-Some.ensures.block c.in-Some.ensures.uses c.in-Some.ensures.text
+returns-in-Some-clause-block c =
+    let r = c.in-Some.ensures in
+    typed_block c.args.known.now c.args.text.now c.args.text.now r.tree c.in-Some.block refl r.read r.found
 
 pub returns-in-Some-clause-covered : goal.returns-in-Some-clause-covered
 returns-in-Some-clause-covered c = λ cells k.
-    named_cover c.args.known.now c.in-Some.block.tree c.in-Some.block.uses cells c.in-Some.ensures.uses k
+    let r = c.in-Some.ensures in
+    let uses = block_uses c.args.known.now c.args.text.now c.args.text.now r.tree c.in-Some.block refl r.read r.found in
+    named_cover c.args.known.now c.in-Some.block.tree c.in-Some.block.uses cells uses k
 
 pub returns-clause-block : goal.returns-clause-block
 returns-clause-block c =

@@ -8,6 +8,6 @@ invariant_of-self c = kept_finished _ _ _ _ _ c.finish-answer.result c.finish-an
 
 pub returns : goal.returns
 returns c = rw (← c.self.view_is) (elim c.match-answer.branch [
-  | in-Ok w ↦ rw (w.result-is, w.out-is) (finish_ok _ _ _ _ w.in-Ok.finish _ _ w.write_finish.result w.in-Ok.ensures.accepted w.in-Ok.ensures.plan w.in-Ok.ensures.refused w.write_finish.ensures)
+  | in-Ok w ↦ rw (w.result-is, w.out-is) (finish_ok _ _ _ _ w.in-Ok.finish _ _ w.write_finish.result w.in-Ok.ensures.accepted.grown w.in-Ok.ensures.accepted.plan w.in-Ok.ensures.refused w.write_finish.ensures)
   | in-Err w ↦ rw (w.result-is, w.out-is) (finish_err _ _ _ _ _ _ _ w.refuse_finish.result w.in-Err.ensures.unchanged w.in-Err.ensures.refused w.refuse_finish.ensures.memory w.refuse_finish.ensures.text)
 ])

@@ -8,7 +8,7 @@ why_of_finish-requires c = stops_finish c.args.self.now c.args.ticket c.in-Err.r
 pub returns-clause-done : goal.returns-clause-done
 returns-clause-done c =
     elim c.match-finish.branch [
-      | in-Ok w ↦ rw w.result-is (next_finish c.args.self.now c.finish.new.self c.args.client c.args.ticket _ c.requires.ready w.in-Ok.ensures.accepted w.in-Ok.ensures.plan w.in-Ok.ensures.refused)
+      | in-Ok w ↦ rw w.result-is (next_finish c.args.self.now c.finish.new.self c.args.client c.args.ticket _ c.requires.ready w.in-Ok.ensures.accepted.grown w.in-Ok.ensures.accepted.plan w.in-Ok.ensures.refused)
       | in-Err w ↦ rw w.result-is tt
     ]
 

@@ -82,7 +82,7 @@ returns-in-Current-clause-reason c =
     ∙ subst (λ (x : DeskView). Some (if is_blocks verdict then Waits reads else CanFinish) ≡ reason_of x c.args.ticket) c.self.view_is
     (stands_current d c.args.ticket verdict reads
     (ap (λ (s : Status). Some (shown s)) (sym c.in-Current.is) ∙ c.in-Some.ensures (state_of d) k.at)
-    (λ w f current. c.in-Some-reads.ensures.present (state_of d) w k.at f current))
+    (λ w f current. c.in-Some-reads.ensures.present (state_of d) k.at w f current))
 
 pub returns-in_default-clause-waits : goal.returns-in_default-clause-waits
 returns-in_default-clause-waits c = has_one c.self.inside _ c.args.ticket c.self.view_is c.self.invariant.0 c.len-variables.ensures.table.typed

@@ -1,7 +1,7 @@
 use Rattle.std.proofs.Common.{ℕ, sym, subst, ◌∙◌}
 use Rattle.stm_history.specs.declared.check.Stage.{Stage}
 use Rattle.stm_history.specs.Stages.{KeepsEvents, Reached}
-use Rattle.stm_history_text.specs.Starts.{IsLatest}
+use Rattle.stm_history_text.specs.Starts.{GoesByPresentRule}
 use Rattle.stm_history.proofs.ReadToTheEnd.{loaded_at, loaded_history}
 use Rattle.stm_history.proofs.check.Checker.into_loaded.Goals as goal
 
@@ -16,7 +16,7 @@ returns-clause-latest c =
     let loaded = subst KeepsEvents (sym c.into_stage.ensures.same ∙ c.in-Running.is) c.requires.stage in
     let format = sym c.loaded_of.ensures.format in
     let checkpoint = sym c.loaded_of.ensures.checkpoint in
-    subst (λ (k : ℕ). IsLatest k c.loaded_of.result.checkpoint) format (subst (IsLatest c.in-Running.format) checkpoint loaded.0)
+    subst (λ (k : ℕ). GoesByPresentRule k c.loaded_of.result.checkpoint) format (subst (GoesByPresentRule c.in-Running.format) checkpoint loaded.0)
 
 pub returns-clause-at : goal.returns-clause-at
 returns-clause-at c =

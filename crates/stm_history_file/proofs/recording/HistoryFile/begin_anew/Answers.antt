@@ -1,6 +1,6 @@
 use Rattle.std.proofs.Common.{refl, sym, subst}
+use Rattle.stm_history_text.specs.Starts.{lent_start}
 use Rattle.stm_journal.specs.Text.{IsWhole}
-use Rattle.stm_history_file.specs.Durable.{lent_start}
 use Rattle.stm_history_file.proofs.Beginnings.{not_replaced}
 use Rattle.stm_history_file.proofs.Texts.{IsWhole-history}
 use Rattle.stm_history_file.proofs.recording.HistoryFile.begin_anew.Goals as goal

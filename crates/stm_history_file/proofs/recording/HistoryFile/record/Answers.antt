@@ -1,6 +1,7 @@
 use Rattle.std.proofs.Common.{Bool, true, ◌∙◌, ap, length, take, refl, sym, subst, arith}
+use Rattle.stm_history_text.specs.Starts.{lent_start}
 use Rattle.stm_journal.specs.Text.{IsWhole}
-use Rattle.stm_history_file.specs.Durable.{lent_start, batch_text}
+use Rattle.stm_history_file.specs.Durable.{batch_text}
 use Rattle.stm_history_file.proofs.Texts.{IsWhole-batch, batch_short, front_of}
 use Rattle.stm_history_file.proofs.Crashes.{recorded, leaves, left, own_run, own_left}
 use Rattle.stm_history_file.proofs.recording.HistoryFile.record.Goals as goal

@@ -1,7 +1,7 @@
-use Rattle.std.proofs.Common.{◌≡◌, [], Some, sym, subst}
-use Rattle.stm_terms.specs.Typing.{action_type, result_type, kinds_in}
+use Rattle.std.proofs.Common.{sym, subst}
+use Rattle.stm_terms.specs.Typing.{result_type}
 use Rattle.stm_store.specs.Cells.{plains, Covers}
-use Rattle.stm_check.specs.TypedBlock.{Block}
+use Rattle.stm_check.specs.TypedBlock.{IsTyped}
 use Rattle.stm_machine.specs.Checkpoints.{CheckpointView, MayAdd, checkpoint_block}
 use Rattle.stm_machine.specs.CheckpointEntries.{MayWait}
 use Rattle.stm_machine.specs.declared.checkpoint.CheckpointBlock.{CheckpointBlock}
@@ -24,7 +24,7 @@ returns-clause-may c =
     let v : CheckpointView = record { store = i.store; names = i.names; next = i.next; blocks = i.blocks.items } in
     let may : MayWait v c.args.ticket c.args.block c.args.delivery c.args.cause c.args.label =
     subst (λ (x : CheckpointView). MayWait x c.args.ticket c.args.block c.args.delivery c.args.cause c.args.label) (sym c.self.view_is) (c.in_ok-may_wait.ensures.0 c.if-not-branch.false) in
-    let typed = subst (λ (x : Block). action_type (kinds_in x.uses) [] x.tree ≡ Some (result_type x.result_type)) c.block-2.ensures c.action-action.ensures.typed in
+    let typed = (subst IsTyped c.block-2.ensures c.action-action.ensures.typed).typed in
     on_ok _ _ c.last_delivery.result
     (λ right. subst (λ (x : CheckpointView). MayAdd x b) c.self.view_is (may_add_block v c.args.ticket c.args.block c.args.delivery c.args.cause c.args.label c.self.invariant may (result_type c.args.block.result_type, typed) right))
     c.last_delivery.ensures.right

@@ -1,6 +1,7 @@
-use Rattle.std.proofs.Common.{refl, sym, subst}
+use Rattle.std.proofs.Common.{not, refl, sym, subst}
 use Rattle.stm_eval.specs.EvaluatedFields.{message_ticket, message_block, message_reads, message_verdict}
 use Rattle.stm_eval.proofs.FragmentsAndStores.{to_store}
+use Rattle.stm_waiting.proofs.TicketMembers.{member_if}
 use Rattle.stm_machine.specs.Machine.{Parts, IsAt}
 use Rattle.stm_machine.proofs.Delivery.{moves_deliver, deliver_queued}
 use Rattle.stm_machine.proofs.Taking.{queued_wait}
@@ -39,7 +40,8 @@ invariant_of-self c =
     let k = subst (λ (m : Parts). IsAt m s) (sym c.self.view_is) c.requires.1 in
     let m = c.args.message in
     let q = deliver_queued _ s m k c.requires.2 in
+    let more = member_if (not c.blocks-in-Ok.result) c.ticket-ticket.result c.take_memory.new.ready.tickets c.add_if.new.self.tickets c.add_if.ensures in
     rw (c.hold.ensures, c.remove.ensures.gone, c.ticket-ticket.ensures, c.into_parts-reads.ensures.reads, c.in-Ok.ensures.verdicts.0)
     (ready_held (message_ticket m) (record { reads = message_reads m; verdict = message_verdict m }) c.self.inside.ready.tickets _ c.self.inside.waiting c.self.inside.pending.entries
     (queued_wait _ s k (message_ticket m) q) c.self.invariant q
-    (λ u. rw (c.blocks-in-Ok.ensures, c.in-Ok.ensures.verdicts.0, c.take_memory.ensures.ready, c.ticket-ticket.ensures) at (c.add_if.ensures u)))
+    (λ u. rw (c.blocks-in-Ok.ensures, c.in-Ok.ensures.verdicts.0, c.take_memory.ensures.ready, c.ticket-ticket.ensures) at (more u)))

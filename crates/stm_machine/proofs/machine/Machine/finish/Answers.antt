@@ -1,4 +1,5 @@
 use Rattle.std.proofs.Common.{refl, sym, subst}
+use Rattle.stm_waiting.proofs.TicketMembers.{member_left, member_rest}
 use Rattle.stm_machine.specs.Machine.{Parts, IsAt}
 use Rattle.stm_machine.proofs.Finishing.{plan_absent, plan_rising, plan_fits, moves_finish}
 use Rattle.stm_machine.proofs.Ready.{ready_finished, lost_none}
@@ -39,4 +40,5 @@ invariant_of-self c =
     let s = c.requires.0 in
     let k = subst (λ (m : Parts). IsAt m s) (sym c.self.view_is) c.requires.1 in
     rw (c.forget.ensures.gone, c.queue_all.ensures, c.take_effect.ensures.entries)
-    (ready_finished c.args.ticket _ _ c.remove.new.self.tickets _ c.self.inside.waiting c.self.inside.pending.entries (lost_none _ s k c.args.ticket) c.self.invariant c.remove.ensures c.remove_all.ensures)
+    (ready_finished c.args.ticket _ _ c.remove.new.self.tickets _ c.self.inside.waiting c.self.inside.pending.entries (lost_none _ s k c.args.ticket) c.self.invariant
+    (member_left c.args.ticket _ _ c.remove.ensures) (member_rest c.as_slice-stale.result.now _ _ c.remove_all.ensures))

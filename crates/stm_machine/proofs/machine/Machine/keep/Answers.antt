@@ -1,4 +1,5 @@
 use Rattle.std.proofs.Common.{◌∙◌, refl, sym, subst}
+use Rattle.stm_waiting.proofs.TicketMembers.{member_if}
 use Rattle.stm_machine.specs.Machine.{Parts, IsAt}
 use Rattle.stm_machine.proofs.Keeping.{moves_keep}
 use Rattle.stm_machine.proofs.Taking.{kept_waits, queued_wait}
@@ -31,7 +32,8 @@ invariant_of-self c =
     let k = subst (λ (m : Parts). IsAt m s) (sym c.self.view_is) c.requires.1 in
     let t = c.args.ticket in
     let q = k.stands.queue t ∙ c.requires.2.0 in
+    let more = member_if _ _ _ _ c.add_if.ensures in
     rw (c.hold_reads.ensures, c.remove.ensures.gone, c.in-Ok.ensures.verdicts.0)
     (ready_held t (record { reads = c.args.scratch.now; verdict = c.args.verdict }) c.self.inside.ready.tickets _ c.self.inside.waiting c.self.inside.pending.entries
     (queued_wait _ s k t q) c.self.invariant q
-    (λ u. rw (← c.in-Ok.ensures.verdicts.0, ← c.memory_to_keep-taken.ensures.ready, ← c.blocks-in-Ok.ensures) (c.add_if.ensures u)))
+    (λ u. rw (← c.in-Ok.ensures.verdicts.0, ← c.memory_to_keep-taken.ensures.ready, ← c.blocks-in-Ok.ensures) (more u)))

@@ -1,8 +1,7 @@
-use Rattle.std.proofs.Common.{◌≡◌, ◌∙◌, true, false, List, [], Some, None, refl, sym, ap, subst}
+use Rattle.std.proofs.Common.{◌≡◌, ◌∙◌, true, false, List, Some, None, refl, sym, ap, subst}
 use Rattle.std.specs.Option.{option_copied}
 use Rattle.stm_store.specs.declared.cell.Cell.{Cell}
-use Rattle.stm_terms.specs.Typing.{action_type, kinds_in, result_type}
-use Rattle.stm_check.specs.TypedBlock.{Block}
+use Rattle.stm_check.specs.TypedBlock.{IsTyped}
 use Rattle.stm_events.specs.SlowDesk.{is_blocks}
 use Rattle.stm_waiting.specs.Entries.{kept_at}
 use Rattle.stm_machine.specs.Machine.{Parts, IsAt}
@@ -94,8 +93,7 @@ returns-in-Ok-clause-plan c = λ s h.
     let e : kept_at c.args.ticket c.self.inside.waiting ≡ Some c.in-Some.waiting.now = sym c.get.ensures ∙ ap option_copied c.in-Some.is in
     let p = has_held _ s k c.args.ticket c.in-Some.waiting.now c.in-Some-held.held e c.in-Some-held.is in
     let q = is_fresh _ s k c.args.ticket c.in-Some-held.held c.in-Some.waiting.now c.has.result p c.has.ensures c.if-has.false in
-    let a : action_type (kinds_in c.in-Some.waiting.now.block.uses) [] c.in-Some.waiting.now.block.tree ≡ Some (result_type c.in-Some.waiting.now.block.result_type) =
-    subst (λ (b : Block). action_type (kinds_in b.uses) [] b.tree ≡ Some (result_type b.result_type)) c.block.ensures c.action-action.ensures.typed in
+    let a = (subst IsTyped c.block.ensures c.action-action.ensures.typed).typed in
     is_plan _ s k c.args.ticket c.in-Some-held.held c.in-Some.waiting.now _ p c.in-Ok.plan.verdict c.in-Ok.plan.first_new c.in-Ok.plan.stale
     q c.len-cells.ensures.store.typed a (ap is_blocks (sym c.verdict-verdict.ensures) ∙ sym c.blocks-2.ensures ∙ c.if-blocks.false) (ap (λ v. overflows c.self.inside.store (Some v)) (sym c.verdict-verdict.ensures) ∙ sym c.overflows_store.ensures ∙ c.if-overflows_store.false)
     c.in-Ok.ensures.verdict c.in-Ok.ensures.first_new c.in-Ok.ensures.rising c.in-Ok.ensures.watchers

@@ -16,7 +16,7 @@ returns-in-None-clause-then c = λ s h.
     rw n refl
 
 pub returns-in-None-clause-present : goal.returns-in-None-clause-present
-returns-in-None-clause-present c = λ s w h f d.
+returns-in-None-clause-present c = λ s h w f d.
     let k = subst (λ (m : Parts). IsAt m s) (sym c.self.view_is) h in
     let e : kept_at c.args.ticket c.self.inside.waiting ≡ None = sym c.get.ensures ∙ ap option_copied c.in-None.is in
     let n : find_waiter c.args.ticket s.waiters ≡ None = lost c.args.ticket c.self.inside.waiting _ k.stands.entries_are e in
@@ -30,7 +30,7 @@ returns-in-None-held-clause-then c = λ s h.
     reads_new _ p.0 p.1 p.2
 
 pub returns-in-None-held-clause-present : goal.returns-in-None-held-clause-present
-returns-in-None-held-clause-present c = λ s w h f d.
+returns-in-None-held-clause-present c = λ s h w f d.
     let k = subst (λ (m : Parts). IsAt m s) (sym c.self.view_is) h in
     let e : kept_at c.args.ticket c.self.inside.waiting ≡ Some c.in-Some.waiting.now = sym c.get.ensures ∙ ap option_copied c.in-Some.is in
     let p = no_held _ s k c.args.ticket c.in-Some.waiting.now e c.in-None-held.is in
@@ -44,7 +44,7 @@ returns-in-Some-held-clause-then c = λ s h.
     rw c.as_slice.ensures.value (reads_are _ p.one p.since c.in-Some-held.held.reads p.found p.since_is p.holds.reads_are)
 
 pub returns-in-Some-held-clause-present : goal.returns-in-Some-held-clause-present
-returns-in-Some-held-clause-present c = λ s w h f d.
+returns-in-Some-held-clause-present c = λ s h w f d.
     let k = subst (λ (m : Parts). IsAt m s) (sym c.self.view_is) h in
     let e : kept_at c.args.ticket c.self.inside.waiting ≡ Some c.in-Some.waiting.now = sym c.get.ensures ∙ ap option_copied c.in-Some.is in
     let p = has_held _ s k c.args.ticket c.in-Some.waiting.now c.in-Some-held.held e c.in-Some-held.is in

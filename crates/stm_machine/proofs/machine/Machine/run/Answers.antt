@@ -1,4 +1,5 @@
 use Rattle.std.proofs.Common.{sym, subst, arith}
+use Rattle.stm_waiting.proofs.TicketMembers.{member_rest}
 use Rattle.stm_machine.specs.Machine.{Parts, IsAt}
 use Rattle.stm_machine.proofs.Calls.{ticket_small}
 use Rattle.stm_machine.proofs.RunAtOnce.{run_absent, run_rising, run_fits, moves_run, ready_run}
@@ -39,4 +40,4 @@ returns-in-Ok-clause-done c = λ z block h e is.
 pub invariant_of-self : goal.invariant_of-self
 invariant_of-self c =
     rw (c.queue_all.ensures, c.take_effect.ensures.entries)
-    (ready_run _ _ c.remove_all.new.self.tickets c.self.inside.waiting c.self.inside.pending.entries c.self.invariant c.remove_all.ensures)
+    (ready_run _ _ c.remove_all.new.self.tickets c.self.inside.waiting c.self.inside.pending.entries c.self.invariant (member_rest c.as_slice-stale.result.now _ _ c.remove_all.ensures))

@@ -1,7 +1,6 @@
-use Rattle.std.proofs.Common.{◌≡◌, [], Some, sym, subst}
+use Rattle.std.proofs.Common.{sym, subst}
 use Rattle.std.specs.Prelude.{IfOk}
-use Rattle.stm_terms.specs.Typing.{action_type, kinds_in, result_type}
-use Rattle.stm_check.specs.TypedBlock.{Block}
+use Rattle.stm_check.specs.TypedBlock.{IsTyped}
 use Rattle.stm_events.specs.SlowDesk.{Slow}
 use Rattle.stm_machine.specs.Atomic.{IsVerdictOf}
 use Rattle.stm_machine.specs.Machine.{Parts, IsAt}
@@ -18,8 +17,7 @@ pub returns : goal.returns
 returns c =
     let s = c.requires.0 in
     let k = subst (λ (m : Parts). IsAt m s) (sym c.self.view_is) c.requires.1 in
-    let a : action_type (kinds_in c.args.block.now.uses) [] c.args.block.now.tree ≡ Some (result_type c.args.block.now.result_type) =
-    subst (λ (b : Block). action_type (kinds_in b.uses) [] b.tree ≡ Some (result_type b.result_type)) c.block.ensures c.action-action.ensures.typed in
+    let a = (subst IsTyped c.block.ensures c.action-action.ensures.typed).typed in
     subst (λ (m : Parts). IfOk c.try_block_in.result (λ v. (s : Slow) → IsAt m s → IsVerdictOf s c.args.block.now v c.try_block_in.new.scratch)) c.self.view_is
     (if_verdict_of _ s c.args.block.now c.in_ok-frozen.frozen c.try_block_in.new.scratch _ c.try_block_in.result k c.requires.2 c.in_ok-frozen.ensures c.len-cells.ensures.store.typed a
     (rw c.block-2.ensures at c.try_block_in.ensures.verdict) (rw c.block-2.ensures at c.try_block_in.ensures.reads))
