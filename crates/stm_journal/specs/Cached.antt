@@ -5,6 +5,7 @@ use Rattle.stm_journal.specs.Disk.{Disk, IsLawful}
 use Rattle.stm_journal.specs.declared.cached.Cached.{Cached}
 use Rattle.stm_journal.specs.declared.cached.Content.{Content}
 
+-- the bytes that the disk has
 abbrev pub bytes_on_disk : Cached → List ℕ
 bytes_on_disk d = d.content.disk.items
 
@@ -29,6 +30,7 @@ HadEither (p ∷ past) c = IsEither p c ⊎ HadEither past c
 abbrev pub SinceThen : List Content → Content → ℕ → List ℕ → Type 0
 SinceThen past p t c = IsEither p c ⊎ HadEither (drop t past) c
 
+-- an honest device: reads return what the cache has, and a crash leaves that or what the disk has
 abbrev pub cached_disk : Disk Cached
 cached_disk = record {
   is_honest = true;
@@ -50,6 +52,7 @@ pub only_present : (past : List Content) (p : Content) (c : List ℕ) → SinceT
 only_present past p c (inl now) = now
 only_present past p c (inr had) = absurd (none_had past c had)
 
+-- its parts go together
 abbrev pub cached_lawful : IsLawful cached_disk
 cached_lawful = record {
   may_stay = λ d. inr refl;

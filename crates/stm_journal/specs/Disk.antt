@@ -24,6 +24,7 @@ pub record Disk (D : Type 0) : Type 1 where
   -- whether a read may fail
   pub reads_fail : D → Type 0
 
+-- how the parts of a device go together
 pub record IsLawful {D : Type 0} (disk : Disk D) : Type 0 where
   -- a crash may leave the file as it is
   pub may_stay : (file : D) → disk.may_leave file (disk.seen file)
@@ -46,6 +47,7 @@ claims_nothing = record {
   reads_fail = λ _. ⊤;
 }
 
+-- its parts go together
 abbrev pub lawful_nothing : {D : Type 0} → IsLawful (claims_nothing {D = D})
 lawful_nothing = record { may_stay = λ file. tt; counts_now = λ file t c le now. now; only_now = λ file c left. left }
 
@@ -72,6 +74,7 @@ pub record OnDisk {D : Type 0} (disk : Disk D) (d : D) : Type 0 where
   pub settled : IsTrue (disk.is_settled d)
   pub only : Only (disk.seen d) (disk.may_leave d)
 
+-- the file is on the disk, if the device is honest
 abbrev pub IsOnDisk : {D : Type 0} → Disk D → D → Type 0
 IsOnDisk disk d = IsTrue disk.is_honest → OnDisk disk d
 
@@ -98,6 +101,7 @@ pub record SettledFrom {D : Type 0} (disk : Disk D) (old new : D) : Type 0 where
   pub left : disk.may_leave old (disk.seen new)
   pub same : IsTrue (disk.is_settled old) → disk.seen new ≡ disk.seen old
 
+-- reads return such a file, if the device is honest
 abbrev pub ShowsWhatIsLeft : {D : Type 0} → Disk D → D → D → Type 0
 ShowsWhatIsLeft disk old new = IsTrue disk.is_honest → SettledFrom disk old new
 
@@ -128,26 +132,30 @@ pub record LeavesOnly {D : Type 0} (disk : Disk D) (old new : D) (P : List ℕ �
   -- for a run that began earlier
   pub before : (t : ℕ) (c : List ℕ) → t ≤ disk.moment old → disk.left_since new t c → disk.left_since old t c ⊎ P c
 
+-- a crash in a call, or right before or after it, leaves a file that has P, if the device is honest
 abbrev pub CrashLeaves : {D : Type 0} → Disk D → D → D → (List ℕ → Type 0) → Type 0
 CrashLeaves disk old new P = IsTrue disk.is_honest → LeavesOnly disk old new P
 
 -- ---- errors
 
--- The call fails only if the disk failed or was full in it, if memory ran out, or as these say.
+-- The call fails only if the disk failed or was full in it, if memory ran out, or as `own` says.
 pub record FaultsBetween {D T : Type 0} (disk : Disk D) (old new : D) (own : Own) (result : Result T JournalError) : Type 0 where
   pub later : disk.faults old ≤ disk.faults new
   pub cause : HasCause (disk.faults old < disk.faults new) own result
 
+-- the call fails only so, if the device is honest
 abbrev pub FailsOnlyIf : {D T : Type 0} → Disk D → D → D → Own → Result T JournalError → Type 0
 FailsOnlyIf disk old new own result = IsTrue disk.is_honest → FaultsBetween disk old new own result
 
+-- the call fails only if the disk failed or was full in it, or if memory ran out
 abbrev pub FailsOnlyByDisk : {D T : Type 0} → Disk D → D → D → Result T JournalError → Type 0
 FailsOnlyByDisk disk old new result = FailsOnlyIf disk old new no_own result
 
--- A call that changes nothing fails only if a read may fail, if memory ran out, or as these say: of the disk's errors it has only those of reads.
+-- A call that changes nothing fails only if a read may fail, if memory ran out, or as `own` says: of the disk's errors it has only those of reads.
 abbrev pub ReadsFailOnlyIf : {D T : Type 0} → Disk D → D → Own → Result T JournalError → Type 0
 ReadsFailOnlyIf disk d own result = IsTrue disk.is_honest → HasReadCause (disk.reads_fail d) own result
 
+-- a call that changes nothing fails only if a read may fail, or if memory ran out
 abbrev pub FailsOnlyByReads : {D T : Type 0} → Disk D → D → Result T JournalError → Type 0
 FailsOnlyByReads disk d result = ReadsFailOnlyIf disk d no_own result
 
@@ -155,6 +163,6 @@ FailsOnlyByReads disk d result = ReadsFailOnlyIf disk d no_own result
 abbrev pub MayFail : {D : Type 0} → Disk D → Type 0
 MayFail {D} disk = ∥ ((d : D) × (e : D) × (disk.faults d < disk.faults e)) ∥₁
 
--- A call that loses the device that failed, so that its faults have no name, fails only because of some device, if memory ran out, or as these say.
+-- A call that loses the device that failed, so that its faults have no name, fails only because of some device, if memory ran out, or as `own` says.
 abbrev pub FailsOnlyIfAny : {D T : Type 0} → Disk D → Own → Result T JournalError → Type 0
 FailsOnlyIfAny disk own result = IsTrue disk.is_honest → HasCause (MayFail disk) own result

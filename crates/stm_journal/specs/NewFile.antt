@@ -4,6 +4,7 @@ use Rattle.stm_journal.specs.Disk.{Disk, HasLength, IsOnDisk}
 use Rattle.stm_journal.specs.declared.device.Device.{Ghosts}
 use Rattle.stm_journal.specs.declared.new_file.NewFile.{NewFile}
 
+-- the first `len` bytes of the file and then those that are still to be written, if the device is honest; else none are known
 abbrev pub bytes_so_far : Bool → List ℕ → ℕ → List ℕ → Option (List ℕ)
 bytes_so_far true file len pending = Some (take len file ++ pending)
 bytes_so_far false file len pending = None

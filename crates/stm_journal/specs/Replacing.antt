@@ -35,6 +35,7 @@ pub record IsAsBefore {D : Type 0} (disk : Disk D) (old new : D) : Type 0 where
   -- a crash in the call left nothing else either
   pub time : ElapsesIn disk old new (λ c. ⊥)
 
+-- nothing has changed, if the device is honest
 abbrev pub StaysAsBefore : {D : Type 0} → Disk D → D → D → Type 0
 StaysAsBefore disk old new = IsTrue disk.is_honest → IsAsBefore disk old new
 
@@ -63,6 +64,7 @@ LeavesByResult disk old other new (Err (Refused e)) = IsAsBefore disk old new
 -- it is the old file or the other one
 LeavesByResult disk old other new (Err (Unfinished e)) = IsOldOrOther disk old other new
 
+-- what the call leaves, if the device is honest
 abbrev pub PutsOrKeeps : {D T : Type 0} → Disk D → D → D → D → Result T ReplaceError → Type 0
 PutsOrKeeps disk old other new result = IsTrue disk.is_honest → LeavesByResult disk old other new result
 
