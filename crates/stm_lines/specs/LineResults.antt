@@ -15,8 +15,8 @@ abbrev pub ReadsLine : ℕ → Option (List ℕ) → Option (List ℕ) → LineR
 ReadsLine limit old new lines (Ok line) = IsRead line limit old new lines.line.items
 ReadsLine limit old new lines (Err e) = StopsInLine e old new lines.chunk lines.line.items
 
--- Of what was still to come no more is left after a line of this many bytes, and after one that a line feed ended less, by more than its
--- bytes.
+-- No more bytes are still to come than before; after a line of this many bytes that a line feed ended fewer, by more than these. After an
+-- error nothing is said.
 abbrev pub LeavesLess : Result Line RunFault → ℕ → ℕ → ℕ → Type 0
 LeavesLess (Ok Whole) len new old = new + len < old
 LeavesLess (Ok Last) len new old = new ≤ old

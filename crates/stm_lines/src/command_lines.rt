@@ -75,7 +75,7 @@ pub fn next_command_line<R: Read, L: Ledger>(
     }
 }
 
-/// Reads the next line, and returns whether there is one.
+/// Reads the next line, and returns whether there is one. No clause says how often the reader is called, or what a fault leaves.
 pub fn has_next_line<R: Read, L: Ledger>(
     lines: &mut LineReader,
     calls: &mut Calls<R, L>,

@@ -217,7 +217,7 @@ impl LineReader {
         ensures called { CountsCalls calls.old calls.new }
         // No call is made if the line is whole in the bytes that were read.
         ensures buffered { HasLineFeed self.old.chunk → calls.new.left ≡ calls.old.left }
-        // By more than the bytes of a line that a line feed ended.
+        // No more is still to come than before; after a line that a line feed ended less, by more than its bytes.
         ensures shorter { LeavesLess result (length self.new.line.items) (most_unread self.new calls.new)
             (most_unread self.old calls.old) }
     {

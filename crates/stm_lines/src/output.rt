@@ -41,7 +41,7 @@ pub fn write_text<W: Write>(writer: &mut W, text: &[u8]) -> Result<(), RunFault>
     Ok(())
 }
 
-/// Hands on what a buffered writer holds. A flush that is interrupted is tried again, as a write is.
+/// Hands on what a buffered writer holds, which no clause says. A flush that is interrupted is tried again, as a write is.
 pub fn flush<W: Write>(writer: &mut W) -> Result<(), RunFault>
     ensures same { Keeps (W.contents writer.old) (W.contents writer.new) }
     ensures fault { IfErr result (λ e. e ≡ RunFault.Write) }
@@ -56,7 +56,7 @@ pub fn flush<W: Write>(writer: &mut W) -> Result<(), RunFault>
     Err(RunFault::Write)
 }
 
-/// Writes a text and flushes.
+/// Writes a text and flushes. No clause says that it flushes.
 pub fn write_flushed<W: Write>(writer: &mut W, text: &[u8]) -> Result<(), RunFault>
     ensures written { WritesText result (W.contents writer.old) (W.contents writer.new) text.now }
     ensures fault { IfErr result (λ e. e ≡ RunFault.Write) }
