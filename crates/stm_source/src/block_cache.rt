@@ -289,7 +289,7 @@ impl Model for BlockCache {
 }
 
 impl BlockCache {
-    /// Keeps no block yet.
+    /// A cache over these names. It keeps no block yet, and no clause says so.
     pub fn new(alloc: Global, known: &Names) -> Result<BlockCache, NoMemory>
         ensures { IfOk result (λ p. p ≡ known.now) }
     {

@@ -16,7 +16,8 @@ use stm_store::{Names, Table};
 use stm_terms::kinds::Ty;
 use stm_terms::values::{Ref, Value};
 
-/// The first value of a declared variable: a literal, or a reference to the variable of a name.
+/// The first value of a declared variable: a literal, or a reference to the variable of a name. `Unknown`, with the place of the name, if it
+/// isn't declared.
 pub fn initial(table: &Table, init: &Init) -> Result<Value, Refusal>
     ensures { result ≡ initial_of table.now (parsed_initial init.now) }
 {
