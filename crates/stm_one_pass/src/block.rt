@@ -69,6 +69,8 @@ fn whole_action(
 }
 
 /// The block of a text over these names; none if the text is refused, or if memory ran out.
+///
+/// No clause says when there is none: whoever gets none has to parse and check the text.
 pub fn block_in_one_pass(alloc: Global, known: &Names, text: &str) -> Option<Typed>
     ensures { IfSome result (IsReadFrom known.now text.now) }
 {
