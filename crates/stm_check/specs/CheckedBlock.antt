@@ -3,11 +3,15 @@ use Rattle.std.specs.Prelude.{ℕ, List, [], Option, Some, None, Result, Ok, Err
 use Rattle.stm_terms.specs.declared.kinds.Ty.{Ty}
 use Rattle.stm_terms.specs.ParsedAst as raw
 use Rattle.stm_terms.specs.Ast.{Act}
-use Rattle.stm_terms.specs.Typing.{ActionType, Gives, Any, uses_of}
+use Rattle.stm_terms.specs.Typing.{ActionType, Gives, Any, kinds_in, record_use_as, uses_of}
 use Rattle.stm_store.specs.Naming.{Named, known_kinds}
 use Rattle.stm_check.specs.TypedBlock.{Block}
 use Rattle.stm_check.specs.CheckFunction.{checked}
 use Rattle.stm_check.specs.declared.fault.TypeFault.{TypeFault}
+
+-- the variables that were named, with one more at the end, unless it is one of them
+abbrev pub with_use : ℕ → Ty → List (ℕ × Ty) → List (ℕ × Ty)
+with_use i t us = record_use_as (kinds_in us i) (Some t) i us
 
 -- the type of a result, none for any
 abbrev pub given_type : ActionType → Option Ty

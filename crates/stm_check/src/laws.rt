@@ -37,7 +37,7 @@ pub fn strengthening()
     ensures { Strengthening }
 {}
 
-/// The variables that a block names, as `Typed::uses` lists them, are distinct: none is listed twice.
+/// The variables that a block names, as the check lists them, are distinct: none is listed twice.
 pub fn uses_are_distinct()
     ensures { UsesAreDistinct }
 {}

@@ -122,7 +122,8 @@ impl Typed {
         self.result_type
     }
 
-    /// The variables that it names, with their types, in order of first appearance.
+    /// The variables that it names, with their types. Those of a block that the check made are `uses_of` its tree: each once, in order of first
+    /// appearance.
     pub fn uses(&self) -> &[(u32, Ty)]
         ensures { result.now ≡ self.now.uses }
     {

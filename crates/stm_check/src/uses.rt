@@ -1,7 +1,8 @@
 //! The variables that a block names.
 
-ghost use Rattle.std.specs.Prelude.{◌≡◌, Some, OnOk};
-ghost use Rattle.stm_terms.specs.Typing.{kinds_in, record_use_as};
+ghost use Rattle.std.specs.Prelude.{◌≡◌, OnOk};
+ghost use Rattle.stm_terms.specs.Typing.{kinds_in};
+ghost use Rattle.stm_check.specs.CheckedBlock.{with_use};
 
 use std::alloc::AllocFailed;
 use stm_terms::kinds::Ty;
@@ -23,8 +24,7 @@ pub fn record_use(
     id: u32,
     kind: Ty,
 ) -> Result<(), AllocFailed<(u32, Ty)>>
-    ensures { OnOk result
-        (uses.new.items ≡ record_use_as (kinds_in uses.old.items id) (Some kind) id uses.old.items) }
+    ensures { OnOk result (uses.new.items ≡ with_use id kind uses.old.items) }
 {
     if kind_in(uses, id).is_none() {
         uses.push((id, kind))?;
