@@ -8,7 +8,7 @@ use Rattle.stm_parse.specs.declared.token.Failure.{Failure}
 use Rattle.stm_parse.specs.declared.token.Failure.TheVariants as stop
 use Rattle.stm_parse.specs.declared.token.Fault.{Fault}
 use Rattle.stm_parse.specs.Grammar.{Placed}
-use Rattle.stm_parse.specs.Descent.{Reading, StopsAs, too_deep}
+use Rattle.stm_parse.specs.Descent.{Reading, StopsAs, Leaves, too_deep}
 
 -- what was read, seen by view, is what the definition reads, unless memory ran out
 abbrev pub GivesResult : {X Y : Type 0} → (X → Y) → Result X Failure → Result Y Fault → Type 0
@@ -17,6 +17,10 @@ GivesResult view result reading = MatchResult result (λ x. reading ≡ Ok (view
 -- what was read, seen by view, and the tokens that are left are what the definition reads and leaves, unless memory ran out
 abbrev pub GivesReading : {X Y : Type 0} → (X → Y) → Result (X × Bor (List Lexeme)) Failure → Reading Y → Type 0
 GivesReading view result reading = GivesResult (λ r. (view r.0, r.1.now)) result reading
+
+-- the tokens that are left are those that the definition leaves, unless memory ran out
+abbrev pub GivesRest : {A : Type 0} → Result (Bor (List Lexeme)) Failure → Reading A → Type 0
+GivesRest result reading = MatchResult result (λ rest. Leaves rest.now reading) (λ e. StopsAs e reading)
 
 -- one level deeper: how many levels are left there, or the error if none is left here
 abbrev pub IsOneDeeper : ℕ → List Lexeme → Result ℕ Failure → Type 0

@@ -1,11 +1,11 @@
 //! What the descent is made of: one token of lookahead, and what is asked of the next token.
 
-ghost use Rattle.std.specs.Prelude.{◌≡◌, ◌<◌, ◌≤◌, length, option_map, IfOk, IfSome, MatchResult};
+ghost use Rattle.std.specs.Prelude.{◌≡◌, ◌<◌, ◌≤◌, length, option_map, IfOk, IfSome};
 ghost use Rattle.std.specs.Option.{option_copied};
 ghost use Rattle.stm_parse.specs.Grammar.{operator_of, operator_mark, grouping_of, widest};
 ghost use Rattle.stm_parse.specs.Bounds.{right_width, next_from};
-ghost use Rattle.stm_parse.specs.DescentResults.{GivesReading, IsOneDeeper};
-ghost use Rattle.stm_parse.specs.Descent.{StopsAs, Leaves, accept, expect, expect_name, is_name_kind, op_ahead, unexpected, too_deep, bad_number};
+ghost use Rattle.stm_parse.specs.DescentResults.{GivesReading, GivesRest, IsOneDeeper};
+ghost use Rattle.stm_parse.specs.Descent.{accept, expect, expect_name, is_name_kind, op_ahead, unexpected, too_deep, bad_number};
 
 use crate::token::{ErrorKind, Failure, Fault, Lexeme, Mark, TokenKind};
 use stm_terms::Op;
@@ -75,8 +75,7 @@ pub fn accept(mark: Mark, toks: &[Lexeme]) -> Option<&[Lexeme]>
 
 /// The tokens after this mark, which must be the next token; otherwise it is unexpected.
 pub fn expect(mark: Mark, toks: &[Lexeme]) -> Result<&[Lexeme], Failure>
-    ensures gives { MatchResult result (λ rest. Leaves rest.now (expect mark toks.now))
-        (λ e. StopsAs e (expect mark toks.now)) }
+    ensures gives { GivesRest result (expect mark toks.now) }
     ensures no_longer { IfOk result (λ rest. length rest.now ≤ length toks.now) }
 {
     match toks.split_first() {

@@ -107,7 +107,7 @@ pub struct RawDeclaration {
     pub init: RawExpr,
 }
 
-/// A declaration.
+/// The declaration at the front of the tokens: NAME ":" type "=" init.
 pub fn declaration(toks: &[Lexeme]) -> Parsed<'_, RawDeclaration>
     ensures gives { GivesReading declaration_tree_of result (declaration_reader toks.now) }
     ensures few { IfOk result (λ r. r.0.ty.refs ≤ most_refs) }
