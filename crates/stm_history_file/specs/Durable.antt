@@ -89,7 +89,7 @@ pub record FitLines (start : Start) (s : Slow) (events : List Event) : Type 0 wh
   pub start_fits : StartFits start
   pub fit : AreFit start.format s events
 
--- the start can be in lines, and so can these events, after whatever history they come
+-- the start can be in lines, and so can these events, from some state on
 abbrev pub CanBeRecorded : Start → List Event → Type 0
 CanBeRecorded start events = (s : Slow) × FitLines start s events
 
@@ -299,7 +299,8 @@ abbrev pub LoadsFront : List ℕ → Option Loaded → Type 0
 LoadsFront front None = front ≡ []
 LoadsFront front (Some h) = IsWholeHistory (loaded_start h) front h.events.items
 
--- why a file isn't opened
+-- why a file isn't opened: for the first error of its whole lines, or since it is some other file. Nothing is said here of an error of the
+-- journal: `HasOpenCause` has its cause.
 abbrev pub ReportsOpenFault : OpenFault → List ℕ → Type 0
 ReportsOpenFault (Journal e) file = ⊤
 ReportsOpenFault (History f) file = ReportsLoadFault f (recovered file)
@@ -309,7 +310,7 @@ ReportsOpenFault Foreign file = IsForeign file
 abbrev pub IsNeverOpened : List ℕ → Type 0
 IsNeverOpened file = IsForeign file ⊎ (most_batch < dropped_count file)
 
--- An error of the journal at opening has a cause: of a read or a write, or when `own` says.
+-- An error of the journal at opening has a cause: for `Failed` a read, for `NoSpace` a write, and for the others what `own` says of lengths.
 pub record HasOpenCause (read write : Type 0) (own : Own) (e : OpenFault) : Type 0 where
   pub failed : e ≡ Journal Failed → read
   pub no_space : e ≡ Journal NoSpace → write
@@ -333,7 +334,7 @@ LoadsUnless disk old new e =
       torn_too_long = most_batch < dropped_count (disk.seen old);
     }) e
 
--- the file was judged, and is left as it was
+-- the error is of a file that was judged, and not of the journal
 abbrev pub IsOfFile : OpenFault → Type 0
 IsOfFile (Journal e) = ⊥
 IsOfFile (History f) = ⊤
@@ -371,7 +372,7 @@ pub record OpensAs {D : Type 0} (disk : Disk D) (device : D) (mode : SyncMode) (
 
 -- The file of this device wasn't opened, for this reason; `left` is the device that is handed back.
 pub record FailsToOpen {D : Type 0} (disk : Disk D) (device left : D) (e : OpenFault) : Type 0 where
-  -- it is the first error of the file
+  -- the error is the first one of the file's lines, or that it is some other file
   pub reported : IsTrue disk.is_honest → ReportsOpenFault e (disk.seen device)
   -- an error of the journal has a cause
   pub cause : LoadsUnless disk device left e

@@ -95,7 +95,7 @@ impl<D: Replace + Drop> HistoryFile<D> {
     ) -> Result<(), ReplaceError>
         // The file has some history, and no sync of it has failed.
         requires kept { KeepsAny D.disk self.old }
-        // The lines before the events can be written in the format, and so can the events, after whatever history they come.
+        // The lines before the events can be written in the format, and so can the events, from some state on.
         requires fit { CanBeRecorded (lent_start format table.now checkpoint) events.now }
         // What it has done to the file: on `Ok`, after a refusal, and after any other error.
         ensures begins { BeginsAs D.disk self.old self.new (lent_start format table.now checkpoint.entry) events.now result }

@@ -102,7 +102,7 @@ impl<D: Device> HistoryFile<D> {
     ) -> Result<(), JournalError>
         // The file has some history that begins so, and no sync of it has failed.
         requires kept { KeepsSome D.disk self.old (start_of_file self.old table.now checkpoint) }
-        // The lines before the events can be written in its format, and so can the events, after whatever history they come.
+        // The lines before the events can be written in its format, and so can the events, from some state on.
         requires fit { CanBeRecorded (start_of_file self.old table.now checkpoint) events.now }
         // The events come after those that the file has.
         ensures recorded { OnOk result (HasRecorded D.disk self.old self.new (start_of_file self.old table.now checkpoint.entry) events.now) }
