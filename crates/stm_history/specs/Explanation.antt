@@ -122,7 +122,8 @@ ExplainsEvent start history e (Refused r) = call_refusal (state_after_start star
 ExplainsEvent start history e Unreadable =
     (what : What) × IsCallDue start history e what × (CanStand start.format (names_after start history) (event e.client what) → ⊥)
 
--- the line was read as this event, though its JSON may be written in another way; the line of an event is read as that event
+-- the line was read as this event: if it is the line of an event, as that one. If its JSON is written in another way, it is only said that
+-- the event can be in a line.
 abbrev pub IsReadAs : List Named → List ℕ → Event → Type 0
 IsReadAs names line e = FitsNames names e × ((d : Event) → FitsNames names d → event_line d ≡ line → d ≡ e)
 
@@ -130,13 +131,14 @@ IsReadAs names line e = FitsNames names e × ((d : Event) → FitsNames names d 
 abbrev pub IsOfNoEvent : List Named → List ℕ → Type 0
 IsOfNoEvent names line = (d : Event) → FitsNames names d → event_line d ≡ line → ⊥
 
--- what is reported of a line at which it was not read as an event
+-- what is reported of a line that wasn't read as an event: that it can't be read; and then it is the line of no event
 abbrev pub IsUnread : List Named → List ℕ → Explanation → Type 0
 IsUnread names line (Expected text) = ⊥
 IsUnread names line (Refused r) = ⊥
 IsUnread names line Unreadable = IsOfNoEvent names line
 
--- what is reported of a line before the events: a line that leads on from here; no desk refuses one
+-- what is reported of a line before the events: some line that leads on from here; or that it can't be read, of which nothing more is said;
+-- no desk refuses one
 abbrev pub ExplainsHead : CheckerState → Explanation → Type 0
 ExplainsHead p (Expected text) = ((q : CheckerState) × LeadsTo p (string_bytes text) q) × IsShort (string_bytes text)
 ExplainsHead p (Refused r) = ⊥

@@ -77,8 +77,8 @@ abbrev pub HaveShortLines : List CheckpointBlock → Type 0
 HaveShortLines [] = ⊤
 HaveShortLines (b ∷ bs) = IsShort (block_line b) × HaveShortLines bs
 
--- a history that begins so may be written in the format: with a checkpoint that is one of checkpoints, and in format 4 no name comes after a
--- variable without one, no block has a label, and of none it is known why it is stale
+-- A history that begins so may be written in the format: over a table in one of tables, from a checkpoint in one of checkpoints; and in
+-- format 4 no name comes after a variable without one, no block has a label, and of none it is known why it is stale.
 abbrev pub FormatFits : ℕ → Option CheckpointView → Type 0
 FormatFits format None = IsFormat format
 FormatFits format (Some c) =
@@ -160,7 +160,7 @@ IsIllegal table history e = IsLegal table (history ++ e ∷ []) → ⊥
 -- What is reported of bytes that are no legal history: the first fault, as a law says (`FileLaws.FaultsAreFixed`). The header is
 -- at fault if the bytes begin with the lines of no start that can be read. A later line is at fault if a legal
 -- history precedes it: it is bad if it is not a short line of an event of the format, and not legal if it is the short line of an
--- event that cannot follow.
+-- event that cannot follow. `ReadFault` and `NoMemory` may be reported of any bytes.
 abbrev pub ReportsFault : HistoryFault → List ℕ → Type 0
 ReportsFault ReadFault bytes = ⊤
 ReportsFault NoMemory bytes = ⊤
@@ -175,12 +175,13 @@ ReportsFault (NotLegal n) bytes =
     × FitsNames (names_after start history) e × FitsFormat start.format e × IsShort (event_line e) × IsIllegalFrom start history e
 
 -- What is judged of bytes, by the result: they are the text of a legal history, and the numbers are its own; otherwise their first fault is
--- reported.
+-- reported, unless the reader failed or memory ran out.
 abbrev pub JudgesHistory : List ℕ → Result Legal HistoryFault → Type 0
 JudgesHistory bytes (Ok n) = IsHistory bytes n
 JudgesHistory bytes (Err f) = ReportsFault f bytes
 
--- what replaying reports of a list that isn't legal: the first event, counted from 1, that can't follow those before it
+-- what replaying reports of a list that isn't legal: the first event, counted from 1, that can't follow those before it; out of memory of any
+-- list
 abbrev pub IsFirstIllegal : HistoryFault → List Declared → List Event → Type 0
 IsFirstIllegal ReadFault table history = ⊥
 IsFirstIllegal BadHeader table history = ⊥
@@ -190,8 +191,8 @@ IsFirstIllegal (NotLegal n) table history =
     (front : List Event) × (e : Event) × (more : List Event) × (history ≡ front ++ e ∷ more) × IsLegal table front
     × IsIllegal table front e × (n ≡ length front + 1)
 
--- What replaying a list of events over a table answers, by the present rule: the list is legal, and the numbers are its own; otherwise the
--- first event that can't follow is reported.
+-- What replaying a list of events over a table returns, by the present rule: the list is legal, and the numbers are its own; otherwise the
+-- first event that can't follow is reported, unless memory ran out.
 abbrev pub ReplaysAs : List Declared → List Event → Result Legal HistoryFault → Type 0
 ReplaysAs table history (Ok n) = IsLegal table history × (n ≡ numbers table history)
 ReplaysAs table history (Err f) = IsFirstIllegal f table history

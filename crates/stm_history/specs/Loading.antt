@@ -57,7 +57,7 @@ pub record IsLoadedHistory (h : Loaded) : Type 0 where
   pub blocks : IfSome h.checkpoint BlocksAreOfText
 
 -- What is loaded of bytes, if they are known, by the result: they are the text of the history; otherwise their first error is reported, or
--- their format.
+-- their format, unless the reader failed or memory ran out.
 abbrev pub LoadsAs : Option (List ℕ) → Result Loaded LoadFault → Type 0
 LoadsAs bytes (Ok h) = IsLoadedHistory h × IfSome bytes (λ all. IsWholeHistory (loaded_start h) all h.events.items)
 LoadsAs bytes (Err e) = IfSome bytes (λ all. ReportsLoadFault e all)
