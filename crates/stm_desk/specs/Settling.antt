@@ -23,6 +23,7 @@ slow_run_stop next d = run_stop next (d.limit - length d.history) (state_of d)
 abbrev pub slow_settle : DeskView → List What
 slow_settle = slow_run next_what
 
+-- and why settling stops
 abbrev pub slow_stop : DeskView → Option Stop
 slow_stop = slow_run_stop next_what
 
@@ -30,6 +31,7 @@ slow_stop = slow_run_stop next_what
 abbrev pub slow_drain : DeskView → List What
 slow_drain = slow_run next_drain
 
+-- and why draining stops
 abbrev pub slow_drain_stop : DeskView → Option Stop
 slow_drain_stop = slow_run_stop next_drain
 
@@ -42,14 +44,14 @@ abbrev pub with_whats : DeskView → ℕ → List What → DeskView
 with_whats d client [] = d
 with_whats d client (x ∷ xs) = with_whats (with_event d client x) client xs
 
--- the history grew by exactly what the order of work does, with so many finishes and so many blocks run, and it stopped so
+-- the history grew by exactly what the order of work does, with f finishes and e blocks run, and it stopped so
 pub record HasRun (next : Order) (client : ℕ) (old new : DeskView) (f e : ℕ) (stop : Option Stop) : Type 0 where
   pub grown : new ≡ with_whats old client (slow_run next old)
   pub finished : f ≡ finishes (slow_run next old)
   pub evaluated : e ≡ installs (slow_run next old)
   pub stopped : slow_run_stop next old ≡ stop
 
--- it grew by a first part of that
+-- it grew by a first part of that, with f finishes and e blocks run, and the rest is what the order of work does from there
 pub record HasBegun (next : Order) (client : ℕ) (old new : DeskView) (f e : ℕ) : Type 0 where
   pub done : List What
   pub grown : new ≡ with_whats old client done
@@ -85,13 +87,15 @@ RunsAs next client old new (Err e) = HasHalted next e.why client old new e.finis
 abbrev pub HasSettled : ℕ → DeskView → DeskView → ℕ → ℕ → Option Stop → Type 0
 HasSettled client old new f e stop = HasRun next_what client old new f e stop
 
+-- settling stopped for this reason, and came so far
 abbrev pub HasStopped : SettleWhy → ℕ → DeskView → DeskView → ℕ → ℕ → Type 0
 HasStopped why client old new f e = HasHalted next_what why client old new f e
 
+-- settling did what its definition says, by what it returns
 abbrev pub SettlesAs : ℕ → DeskView → DeskView → Result Settled SettleStop → Type 0
 SettlesAs client old new result = RunsAs next_what client old new result
 
--- and of draining
+-- and so did draining
 abbrev pub DrainsAs : ℕ → DeskView → DeskView → Result Settled SettleStop → Type 0
 DrainsAs client old new result = RunsAs next_drain client old new result
 

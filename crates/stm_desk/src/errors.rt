@@ -42,7 +42,7 @@ pub enum SettleWhy {
     NoMemory,
 }
 
-/// Settling stopped, after so many finishes and accepted deliveries.
+/// Settling, or draining, stopped: how many blocks it had finished, how many deliveries were accepted, and why.
 #[derive(Clone, Copy, Debug, PartialEq, Eq, Error)]
 #[error("settled {finished} after {evaluations} evaluations: {why}")]
 pub struct SettleStop {

@@ -163,8 +163,8 @@ impl Desk {
         Ok(applied)
     }
 
-    /// The block takes effect and waits no more, and the event is at the end of the client's own list too, where it is
-    /// accepted. The caller's number is below 128.
+    /// The block takes effect and waits no more, and the event is at the end of the client's own list too, if it is accepted. The
+    /// tickets that become stale are queued. The caller's number is below 128.
     pub fn finish_noted(
         &mut self,
         client: u32,
