@@ -40,6 +40,7 @@ checkpoint_header_data format next vars waiting =
     (member (codes "vars") (number_data vars)
     (member (codes "waiting") (number_data waiting) no_members))))
 
+-- the first line: the compact text of that
 unfoldable pub checkpoint_header_line : ℕ → ℕ → ℕ → ℕ → List ℕ
 checkpoint_header_line format next vars waiting = compact_text (checkpoint_header_data format next vars waiting)
 
@@ -65,6 +66,7 @@ cell_data name c =
     (member (codes "name") (name_data name)
     (member (codes "type") (string (type_text c.kind)) no_members))))
 
+-- the line of a variable
 unfoldable pub cell_line : Option (List ℕ) → Cell → List ℕ
 cell_line name c = compact_text (cell_data name c)
 
@@ -81,6 +83,7 @@ FitsCell name c = FitsName name × (c.kind.refs ≤ most_refs) × FitsValue c.va
 abbrev pub line_of_cell : Option (List ℕ) × Cell → List ℕ
 line_of_cell c = cell_line c.0 c.1
 
+-- a variable with its name, if it has one, can be in a line
 abbrev pub FitsNamedCell : Option (List ℕ) × Cell → Type 0
 FitsNamedCell c = FitsCell c.0 c.1
 
@@ -116,6 +119,7 @@ abbrev pub waiting_data : ℕ → List ℕ → Option KeptCause → List ℕ →
 waiting_data ticket text cause label delivery =
     object (member (codes "block") (string text) (members_after_text ticket cause label delivery))
 
+-- the line of a waiting block, by its parts
 unfoldable pub waiting_line : ℕ → List ℕ → Option KeptCause → List ℕ → Option Delivered → List ℕ
 waiting_line ticket text cause label delivery = compact_text (waiting_data ticket text cause label delivery)
 
@@ -131,7 +135,7 @@ given_data l = waiting_data l.ticket l.text.now (option_copied l.cause) l.label.
 abbrev pub given_line : WaitingLine → List ℕ
 given_line l = waiting_line l.ticket l.text.now (option_copied l.cause) l.label.now (option_map parts_delivered l.delivery)
 
--- the line of a waiting block
+-- the line of a waiting block that was read
 abbrev pub line_of_waiting : WaitingBlock → List ℕ
 line_of_waiting w = waiting_line w.ticket w.block.text w.cause w.label w.delivery
 
@@ -154,5 +158,6 @@ FitsWaiting known ticket block cause label delivery =
     × FitsDelivery delivery
     × IsTrue (is_label label)
 
+-- a waiting block that was read can be in a line over the names
 abbrev pub FitsWaitingBlock : List Named → WaitingBlock → Type 0
 FitsWaitingBlock known w = FitsWaiting known w.ticket w.block w.cause w.label w.delivery
