@@ -426,7 +426,7 @@ impl Checkpoint {
         &self.names
     }
 
-    /// The next ticket.
+    /// The next ticket. The clause `checkpoint` says what holds of every checkpoint.
     pub fn next(&self) -> u32
         ensures next { result ≡ self.now.next }
         ensures checkpoint { IsCheckpoint self.now }

@@ -70,7 +70,7 @@ impl Machine {
         self.pending.queued_at(i)
     }
 
-    /// The lowest ticket of a block that is new or stale, where no ticket is out.
+    /// The lowest ticket of a block that is new or stale, if no ticket is out.
     pub fn first_due(&self) -> Option<u32>
         requires { some_out self.now.pending ≡ false }
         ensures { (s : Slow) → IsAt self.now s → result ≡ next_due s }
