@@ -268,7 +268,8 @@ BeginsAs disk old new start events (Ok x) = HasBegunWith disk new start events
 BeginsAs disk old new start events (Err (Refused e)) = IsUnchanged disk old new
 BeginsAs disk old new start events (Err (Unfinished e)) = IsOldOrNew disk old new start events e
 
--- The call fails only if a disk does, if memory runs out, or if a line of the history or the file is too long.
+-- The call fails only if devices of this kind may fail, since the one that failed is lost; if memory runs out; or if a line of the history or
+-- the file is too long.
 abbrev pub BeginsUnless : {D T : Type 0} → Disk D → Start → List Event → Result T JournalError → Type 0
 BeginsUnless disk start events result =
     FailsOnlyIfAny disk (record {

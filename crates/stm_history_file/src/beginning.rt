@@ -103,7 +103,7 @@ impl<D: Replace + Drop> HistoryFile<D> {
         ensures any_moment { LeavesOldOrAll D.disk self.old self.new (history_text (lent_start format table.now checkpoint.entry) events.now) }
         // The file is synced as before.
         ensures sync { self.new.journal.sync ≡ self.old.journal.sync }
-        // The call fails only if a disk does, if memory runs out, or if a line or the file is too long.
+        // The call fails only if devices of this kind may fail, if memory runs out, or if a line or the file is too long.
         ensures fault { BeginsUnless D.disk (lent_start format table.now checkpoint.entry) events.now (journal_result result) }
     {
         let file = match self.journal.new_file(alloc) {
@@ -148,7 +148,7 @@ impl<D: Replace + Drop> HistoryFile<D> {
         // The format is the new one, and the file is synced as before.
         ensures format { self.new.format ≡ format }
         ensures sync { self.new.journal.sync ≡ self.old.journal.sync }
-        // The call fails only if a disk does, if memory runs out, or if a line or the file is too long.
+        // The call fails only if devices of this kind may fail, if memory runs out, or if a line or the file is too long.
         ensures fault { BeginsUnless D.disk (lent_start format table.now checkpoint.entry) [] result }
     {
         self.format = format;
