@@ -169,7 +169,8 @@ LeavesAtAnyMoment disk old new start events =
     → LeavesOnly disk old.journal.device new.journal.device (MayBecome disk old start history events)
     × MayBecome disk old start history events (disk.seen new.journal.device)
 
--- What a crash at any moment leaves, and an error, isn't some other file, unless the crash tears the byte that opens the first batch.
+-- If the journal syncs, what a crash at any moment leaves, and an error, isn't some other file, unless the crash tears the byte that opens
+-- the first batch.
 abbrev pub LeavesOwn : {D : Type 0} → Disk D → HistoryFile D → HistoryFile D → Start → List Event → Type 0
 LeavesOwn disk old new start events =
     IsTrue disk.is_honest → old.journal.sync ≢ Never → (history : List Event) → HistoryKept disk old start history
@@ -189,7 +190,7 @@ pub record HasRecorded {D : Type 0} (disk : Disk D) (old new : HistoryFile D) (s
 pub record LeavesRecording {D : Type 0} (disk : Disk D) (old new : HistoryFile D) (start : Start) (events : List Event) : Type 0 where
   -- the history from before, and of these events what the sync mode promises
   pub left : LeavesAtAnyMoment disk old new start events
-  -- no other file, unless the crash tears the byte that opens the first batch
+  -- if the journal syncs, no other file, unless the crash tears the byte that opens the first batch
   pub own : LeavesOwn disk old new start events
 
 -- a batch that is too long is refused before anything is written: as `TooLong`, unless memory runs out

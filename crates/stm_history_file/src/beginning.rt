@@ -142,8 +142,8 @@ impl<D: Replace + Drop> HistoryFile<D> {
         requires none { self.old.begun ≡ false }
         // The lines before the events were recorded.
         ensures recorded { OnOk result (HasRecorded D.disk self.old self.new (lent_start format table.now checkpoint.entry) []) }
-        // A crash at any moment, and an error, leave no history yet, or all lines before the events, or what the sync mode promises; and
-        // no other file, unless the crash tears the byte that opens the first batch.
+        // If the journal syncs, a crash at any moment, and an error, leave no history yet or all lines before the events, and no other file,
+        // unless the crash tears the byte that opens the first batch.
         ensures any_moment { LeavesRecording D.disk self.old self.new (lent_start format table.now checkpoint.entry) [] }
         // The format is the new one, and the file is synced as before.
         ensures format { self.new.format ≡ format }
