@@ -20,6 +20,7 @@ stales_of (Cancelled t) = 0
 stales_of (DeclaredLate name kind value) = 0
 stales_of (Labelled t label) = 0
 
+-- how many blocks these events make stale, each as often as it becomes so
 abbrev pub stales : List What → ℕ
 stales [] = 0
 stales (x ∷ xs) = stales_of x + stales xs

@@ -39,6 +39,7 @@ pub record Served : Type 0 where
   pub verdict : Verdict
   pub first_new : ℕ
 
+-- the finish, if the event is one
 abbrev pub served_by : What → List Served
 served_by (Submitted t block) = []
 served_by (Installed t v) = []

@@ -1,6 +1,6 @@
 -- Settling on the slow desk: the lowest waiting block that is new or stale is run and installed; if there is none, the
 -- lowest one that doesn't block on the present store is finished; and so on, while the history has room. An installed block
--- changes no other block's mark: so these are rounds, each of which installs all that are new or stale, rising, and then
+-- changes no other block's mark: so these are rounds, each of which installs all that are new or stale, in ascending order, and then
 -- finishes one.
 use Rattle.std.specs.Prelude.{◌≡◌, ℕ, zero, suc, ◌+◌, Bool, true, false, not, nat_le, nat_lt, if◌then◌else◌, List, [], ◌∷◌, filter, length, Option, Some, None, is_some}
 use Rattle.stm_terms.specs.declared.verdicts.Verdict.{Verdict}

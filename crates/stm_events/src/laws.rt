@@ -89,7 +89,7 @@ pub fn waiting_are_well_typed()
     ensures { WaitingAreWellTyped }
 {}
 
-/// Where each block that is submitted is well typed, the store stays well typed.
+/// If each block that is submitted is well typed, the store stays well typed.
 pub fn stores_are_typed()
     ensures { StoresAreTyped }
 {}

@@ -84,7 +84,7 @@ impl SharedVerdict {
         }
     }
 
-    /// The verdict; where it takes no memory, the `Blocks` that is lent.
+    /// The verdict. If it is `Blocks`, which takes no memory, it is the one that is lent.
     pub fn get<'a>(&'a self, blocks: &'a Verdict) -> &'a Verdict
         requires { blocks.now ≡ Blocks }
         ensures { result.now ≡ self.now }
