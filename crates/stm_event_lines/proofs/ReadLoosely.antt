@@ -1,6 +1,6 @@
 -- A line is read as what it is the line of, however loosely lines are read.
-use Rattle.std.proofs.Common.{◌≡◌, ℕ, Bool, true, false, List, Option, Some, None, ◌∙◌}
-use Rattle.std.specs.Prelude.{◌&&◌, IfOk, IfSome, Result, Ok, Err, option_map, string_bytes}
+use Rattle.std.proofs.Common.{◌≡◌, ℕ, Bool, true, false, List, Option, Some, None, sym, ◌∙◌, ap}
+use Rattle.std.specs.Prelude.{◌&&◌, IfOk, IfSome, Result, Ok, Err, option_and_then, option_map, string_bytes}
 use Rattle.std.specs.Str.{IsUtf8}
 use Rattle.serde_json.specs.Data.{Data}
 use Rattle.serde_json.specs.Read.{read}
@@ -16,7 +16,7 @@ use Rattle.stm_event_lines.specs.CheckpointLines.{FitsCell, FitsNamedCell, FitsW
 use Rattle.stm_event_lines.specs.Fields.{declared_from_json, event_of}
 use Rattle.stm_event_lines.specs.Fits.{FitsNames, FitsVariable}
 use Rattle.stm_event_lines.specs.Lines.{event_line, variable_line}
-use Rattle.stm_event_lines.specs.ReadLines.{CanBeReadAs, cell_parts, declared}
+use Rattle.stm_event_lines.specs.ReadLines.{CanBeReadAs, IsEventOfJson, cell_parts, declared, event_in_line}
 use Rattle.stm_event_lines.proofs.Checkpoints.{cell_is, waiting_is}
 use Rattle.stm_event_lines.proofs.ReadsBack.{event_is, event_unread, variable_is}
 
@@ -27,6 +27,21 @@ loose_same (Err e) known line json ok fits h = tt
 
 pub loose_none : (known : List Named) (line : List ℕ) (d : Event) (o : Option Event) → (IsUtf8 line → read line ≡ None) → FitsNames known d → event_line d ≡ line → o ≡ Some d
 loose_none known line d o bad f l = absurd (event_unread known line d f l bad)
+
+-- what is read of a line is what its JSON stands for
+json_event : (known : List Named) (line : List ℕ) (json : Data) (o : Option Event) → read line ≡ Some json → o ≡ event_of known json → IsEventOfJson known line o
+unfolding event_in_line
+json_event known line json (Some e) ok h = ap (λ (d : Option Data). option_and_then (event_of known) d) ok ∙ sym h
+json_event known line json None ok h = λ utf8. ap (λ (d : Option Data). option_and_then (event_of known) d) ok ∙ sym h
+
+pub loose_meant : {E : Type 0} (r : Result (Option Event) E) (known : List Named) (line : List ℕ) (json : Data) → read line ≡ Some json → IfOk r (λ o. o ≡ event_of known json) → IfOk r (IsEventOfJson known line)
+loose_meant (Ok o) known line json ok h = json_event known line json o ok h
+loose_meant (Err e) known line json ok h = tt
+
+-- a line that is no JSON stands for no event
+pub none_meant : (known : List Named) (line : List ℕ) → (IsUtf8 line → read line ≡ None) → IsEventOfJson known line None
+unfolding event_in_line
+none_meant known line bad = λ utf8. ap (λ (d : Option Data). option_and_then (event_of known) d) (bad utf8)
 
 -- the parts of a variable that fits
 parts_fit : (o : Option NamedCell) → IfSome o (λ c. FitsCell (option_map string_bytes c.name) c.cell) → IfSome (option_map cell_parts o) FitsNamedCell

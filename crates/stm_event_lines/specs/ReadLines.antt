@@ -1,5 +1,7 @@
 -- What reading a line returns: a line is read exactly if it is the text of something that fits.
-use Rattle.std.specs.Prelude.{◌≡◌, ◌≢◌, List, ℕ, Option, Some, Result, Ok, Err, IfSome, option_map, string_bytes}
+use Rattle.std.specs.Prelude.{◌≡◌, ◌≢◌, List, ℕ, Option, Some, None, Result, Ok, Err, IfSome, option_and_then, option_map, string_bytes}
+use Rattle.std.specs.Str.{IsUtf8}
+use Rattle.serde_json.specs.Read.{read as json_in}
 use Rattle.stm_store.specs.declared.cell.Cell.{Cell}
 use Rattle.stm_store.specs.Naming.{Named}
 use Rattle.stm_store.specs.Tables.{Declared}
@@ -12,6 +14,7 @@ use Rattle.stm_event_lines.specs.declared.read.LineError.{LineError}
 use Rattle.stm_event_lines.specs.declared.read.LineError.TheVariants.{Bad}
 use Rattle.stm_event_lines.specs.declared.variable.Variable.{Variable}
 use Rattle.stm_event_lines.specs.CheckpointLines.{FitsCheckpointHeader, FitsNamedCell, FitsWaitingBlock, line_of_cell, line_of_checkpoint_header, line_of_waiting}
+use Rattle.stm_event_lines.specs.Fields.{event_of}
 use Rattle.stm_event_lines.specs.Fits.{FitsHeader, FitsNames, FitsVariable}
 use Rattle.stm_event_lines.specs.Lines.{event_line, line_of_header, variable_line}
 
@@ -57,3 +60,12 @@ ReadsWaiting known line result = ReadsAs (λ (w : WaitingBlock). w) (FitsWaiting
 -- that fits, then just that.
 abbrev pub CanBeReadAs : {B : Type 0} → (B → Type 0) → (B → List ℕ) → List ℕ → Option B → Type 0
 CanBeReadAs {B} Fits text line read = IfSome read Fits × ((y : B) → Fits y → text y ≡ line → read ≡ Some y)
+
+-- the event over these names that the JSON of a line stands for, however it is written
+unfoldable pub event_in_line : List Named → List ℕ → Option Event
+event_in_line known line = option_and_then (event_of known) (json_in line)
+
+-- What is read of the line is the event that its JSON stands for; and if nothing is read, it stands for none, or isn't UTF-8.
+abbrev pub IsEventOfJson : List Named → List ℕ → Option Event → Type 0
+IsEventOfJson known line None = IsUtf8 line → event_in_line known line ≡ None
+IsEventOfJson known line (Some e) = event_in_line known line ≡ Some e

@@ -12,7 +12,7 @@ ghost use Rattle.stm_event_lines.specs.CheckpointLines.{IsCheckpointFormat, line
 ghost use Rattle.stm_event_lines.specs.Fields.{declared_from_json as variable_meant, event_of as event_meant, header_of as header_meant};
 ghost use Rattle.stm_event_lines.specs.Fits.{Is32Bit, FitsHeader, FitsNames, FitsValue, FitsVariable};
 ghost use Rattle.stm_event_lines.specs.Lines.{declaring_format, event_line, line_of_header, variable_line};
-ghost use Rattle.stm_event_lines.specs.ReadLines.{CanBeReadAs, cell_parts, declared};
+ghost use Rattle.stm_event_lines.specs.ReadLines.{CanBeReadAs, IsEventOfJson, cell_parts, declared};
 
 use crate::checkpoint::{
     CheckpointHeader, NamedCell, WaitingBlock, cell_of, header_of as checkpoint_header_of,
@@ -39,7 +39,10 @@ fn only_event_of(alloc: Global, known: &Names, json: &Json) -> Result<Option<Eve
 
 /// The event that a line can be read as.
 pub fn loose_event(alloc: Global, known: &Names, line: &[u8]) -> Result<Option<Event>, NoMemory>
-    ensures { IfOk result (CanBeReadAs (FitsNames known.now) event_line line.now) }
+    // It can be in a line over the names; and the line of an event is read as that event.
+    ensures read { IfOk result (CanBeReadAs (FitsNames known.now) event_line line.now) }
+    // It is the event that the line's JSON stands for, however it is written.
+    ensures meant { IfOk result (IsEventOfJson known.now line.now) }
 {
     match json_of(alloc, line) {
         Ok(json) => only_event_of(alloc, known, &json),

@@ -1,6 +1,7 @@
 -- What is reported of the line at which a checker stopped: the line that would be accepted there for the same call, or why a desk
 -- refuses the call.
 use Rattle.std.specs.Prelude.{◌≡◌, ◌⊎◌, ℕ, ◌+◌, Bool, nat_le, if◌then◌else◌, List, [], ◌∷◌, ◌++◌, length, Option, Some, None, option_map, option_and_then, string_bytes, Result, Ok, Err}
+use Rattle.std.specs.Str.{IsUtf8}
 use Rattle.stm_terms.specs.declared.kinds.Ty.{Ty}
 use Rattle.stm_terms.specs.declared.values.Value.{Value}
 use Rattle.stm_terms.specs.declared.verdicts.Verdict.{Verdict}
@@ -28,6 +29,7 @@ use Rattle.stm_event_lines.specs.Fits.{FitsNames, FitsFormat}
 use Rattle.stm_history.specs.Judgement.{IsHistory, IsIllegalFrom, IsShort, ReportsFault, next_line}
 use Rattle.stm_history_text.specs.Starts.{Start, first_state, names_after, state_after_start}
 use Rattle.stm_event_lines.specs.Lines.{event_line}
+use Rattle.stm_event_lines.specs.ReadLines.{event_in_line}
 
 -- ---- calls
 -- What a client asks for: an event without what the desk adds, which is the ticket of a submission, the verdict of a delivery, and of a
@@ -122,14 +124,15 @@ ExplainsEvent start history e (Refused r) = call_refusal (state_after_start star
 ExplainsEvent start history e Unreadable =
     (what : What) × IsCallDue start history e what × (CanStand start.format (names_after start history) (event e.client what) → ⊥)
 
--- the line was read as this event: if it is the line of an event, as that one. If its JSON is written in another way, it is only said that
--- the event can be in a line.
+-- the line was read as this event: the one that its JSON stands for, however it is written; and the line of an event is read as that event
 abbrev pub IsReadAs : List Named → List ℕ → Event → Type 0
-IsReadAs names line e = FitsNames names e × ((d : Event) → FitsNames names d → event_line d ≡ line → d ≡ e)
+IsReadAs names line e =
+    FitsNames names e × ((d : Event) → FitsNames names d → event_line d ≡ line → d ≡ e) × (event_in_line names line ≡ Some e)
 
--- the line is of no event
+-- the line is of no event, and its JSON stands for none, if it is UTF-8
 abbrev pub IsOfNoEvent : List Named → List ℕ → Type 0
-IsOfNoEvent names line = (d : Event) → FitsNames names d → event_line d ≡ line → ⊥
+IsOfNoEvent names line =
+    ((d : Event) → FitsNames names d → event_line d ≡ line → ⊥) × (IsUtf8 line → event_in_line names line ≡ None)
 
 -- what is reported of a line that wasn't read as an event: that it can't be read; and then it is the line of no event
 abbrev pub IsUnread : List Named → List ℕ → Explanation → Type 0
