@@ -1,10 +1,11 @@
 -- What a storm leaves: a desk, whose history has what its counts say.
-use Rattle.std.specs.Prelude.{◌≡◌, ℕ, ◌+◌, Bool, true, false, List, [], ◌∷◌, length, if◌then◌else◌, ⊤}
+use Rattle.std.specs.Prelude.{◌≡◌, ℕ, ◌+◌, Bool, true, false, List, [], ◌∷◌, length, if◌then◌else◌, IfSome, ⊤}
 use Rattle.stm_events.specs.declared.event.Event.{Event}
 use Rattle.stm_events.specs.declared.event.What.{What}
 use Rattle.stm_events.specs.declared.event.What.TheVariants.{Submitted, Installed, Finished, Cancelled, Declared as DeclaredLate, Labelled}
 use Rattle.stm_events.specs.SlowSettle.{is_finish}
 use Rattle.stm_pool.specs.declared.storm.Counts.{Counts}
+use Rattle.stm_pool.specs.declared.storm.StormEnd.{StormEnd}
 use Rattle.stm_pool.specs.declared.close.Report.{Report}
 use Rattle.stm_pool.specs.Own.{own_of}
 
@@ -31,7 +32,7 @@ abbrev pub how_many : (What → Bool) → List Event → ℕ
 how_many kind [] = 0
 how_many kind (e ∷ es) = if kind e.what then how_many kind es + 1 else how_many kind es
 
--- a client's counts are those of its events
+-- what a client is counted to have submitted, finished and cancelled is what its events say; its other counts leave no event
 pub record CountsEvents (own : List Event) (c : Counts) : Type 0 where
   pub submitted : c.submitted ≡ how_many is_submission own
   pub finished : c.finished ≡ how_many is_finish own
@@ -46,3 +47,7 @@ CountsClients history client (c ∷ cs) = CountsEvents (own_of client history) c
 pub record CountsDesk (counts : List Counts) (r : Report) : Type 0 where
   pub many : r.events ≡ length r.desk.history
   pub counted : CountsClients r.desk.history 0 counts
+
+-- if a storm's desk could be closed, its counts are those of the desk's clients
+abbrev pub IsCountedStorm : StormEnd → Type 0
+IsCountedStorm e = IfSome e.report (λ r. CountsDesk e.counts.items r)

@@ -1,6 +1,9 @@
 //! The calls of a shared desk. Each takes the lock, makes one call of `Guarded`, and once the lock
-//! is given back wakes those for whom something changed: who waits for events after an accepted
-//! call, and who waits for a queued ticket when there may be one more.
+//! is given back wakes the threads that may go on: those that wait for events after an accepted
+//! call, and those that wait for a queued ticket when there may be one more.
+//!
+//! Other threads change the desk between two calls, so a clause says what a call did to the caller's pass. When a call is refused, and what it
+//! returns beside its event, is only tested.
 
 ghost use Rattle.std.specs.Prelude.{◌≡◌, ◌<◌, IsTrue, IfOk, OnOk, IfErr, OnErr, IfSome};
 ghost use Rattle.stm_terms.specs.Names.{is_name_text};
@@ -35,7 +38,7 @@ pub enum Next {
 }
 
 impl<L: Ledger> SharedDesk<L> {
-    /// `Guarded::submit`, under the lock.
+    /// `Guarded::submit`, under the lock. The clauses speak only of the pass.
     pub fn submit<R: Wait>(
         &self,
         rt: &R,
@@ -53,7 +56,7 @@ impl<L: Ledger> SharedDesk<L> {
         answer
     }
 
-    /// `Guarded::declare`, under the lock.
+    /// `Guarded::declare`, under the lock. The clauses speak only of the pass, and not of the number that is returned.
     pub fn declare<R: Wait>(
         &self,
         rt: &R,
@@ -74,7 +77,7 @@ impl<L: Ledger> SharedDesk<L> {
         answer
     }
 
-    /// `Guarded::finish`, under the lock.
+    /// `Guarded::finish`, under the lock. The clauses speak only of the pass, and not of the value that the block returned.
     pub fn finish<R: Wait>(
         &self,
         rt: &R,
@@ -92,7 +95,7 @@ impl<L: Ledger> SharedDesk<L> {
         answer
     }
 
-    /// `Guarded::cancel`, under the lock.
+    /// `Guarded::cancel`, under the lock. The clauses speak only of the pass.
     pub fn cancel<R: Wait>(
         &self,
         rt: &R,
@@ -109,7 +112,7 @@ impl<L: Ledger> SharedDesk<L> {
         answer
     }
 
-    /// `Guarded::deliver`, under the lock.
+    /// `Guarded::deliver`, under the lock. The clauses speak only of the pass and the message.
     pub fn deliver<R: Wait>(
         &self,
         rt: &R,
@@ -132,6 +135,8 @@ impl<L: Ledger> SharedDesk<L> {
 
     /// What is there now: the store and the length of a legal history, which has this client's
     /// events and is no shorter than what it has seen. The client has seen it from then on.
+    ///
+    /// No clause says over which variables the history is, nor when the error is `Lost`.
     pub fn view<R: Wait>(&self, rt: &R, pass: &mut Pass<L>) -> Result<View, ViewError>
         ensures shown { IfOk result (IsShownSome pass.old pass.new) }
         ensures unchanged { OnErr result (pass.new ≡ pass.old) }
@@ -142,6 +147,8 @@ impl<L: Ledger> SharedDesk<L> {
     /// The store and the length of a legal history, which is no shorter than what the client has
     /// seen. The client has seen it from then on. It costs a copy of the store, however long the
     /// history is.
+    ///
+    /// No clause says over which variables the history is, nor when the error is `Lost`.
     pub fn present<R: Wait>(&self, rt: &R, pass: &mut Pass<L>) -> Result<View, ViewError>
         ensures shown { IfOk result (IsPresentSome pass.old pass.new) }
         ensures unchanged { OnErr result (pass.new ≡ pass.old) }
@@ -151,6 +158,8 @@ impl<L: Ledger> SharedDesk<L> {
 
     /// Waits until a ticket is queued or the desk is stopped, and takes the ticket. `Idle` if
     /// there is none after all.
+    ///
+    /// The clause says that the store has the variables of the job's block; which job it is, and when there is none, is only tested.
     pub fn next_job<R: Wait>(&self, rt: &R) -> Result<Next, NoMemory>
         ensures { IfOk result (λ n. CanBeEvaluated n) }
     {
@@ -166,7 +175,7 @@ impl<L: Ledger> SharedDesk<L> {
         }
     }
 
-    /// `Guarded::hand_back`, under the lock.
+    /// `Guarded::hand_back`, under the lock. No clause speaks of the result: it is only tested.
     pub fn hand_back<R: Wait>(&self, rt: &R, ticket: u32) -> bool {
         let was = self.lock.lock(rt).hand_back(ticket);
         if was {
@@ -176,7 +185,7 @@ impl<L: Ledger> SharedDesk<L> {
     }
 
     /// Waits until there are more than `seen` events, and returns how many; nothing if the desk
-    /// was stopped before.
+    /// was stopped before. No clause says when that is.
     pub fn wait_past<R: Wait>(&self, rt: &R, seen: u32) -> Option<u32>
         ensures { IfSome result (λ n. seen < n) }
     {
@@ -189,7 +198,7 @@ impl<L: Ledger> SharedDesk<L> {
         if events > seen { Some(events) } else { None }
     }
 
-    /// Ends all waiting. No later call is refused for it.
+    /// Ends all waiting. No later call is refused for it. No clause says either: it is only tested.
     pub fn stop<R: Wait>(&self, rt: &R) {
         self.lock.lock(rt).stopped = true;
         self.grown.notify_all();

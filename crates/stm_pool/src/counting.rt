@@ -53,7 +53,7 @@ fn counts_in<L: Ledger>(passes: &[Pass<L>], client: u32, extra: Extra) -> Counts
     }
 }
 
-/// The counts of the first clients, of whom each has what left no event here.
+/// The counts of the first clients, each with what left no event.
 pub(crate) fn counts_of<L: Ledger>(
     alloc: Global,
     passes: &[Pass<L>],

@@ -1,6 +1,6 @@
 //! The desk under its lock: what each call does that is lent the desk and a pass.
 
-ghost use Rattle.std.specs.Prelude.{◌≡◌, ◌≢◌, ◌<◌, ◌⊎◌, false, length, is_some, IsTrue, IfOk, OnOk, IfErr, OnErr, IfSome};
+ghost use Rattle.std.specs.Prelude.{◌≡◌, ◌<◌, false, length, is_some, IsTrue, IfOk, OnOk, IfErr, OnErr, IfSome};
 ghost use Rattle.stm_terms.specs.Names.{is_name_text};
 ghost use Rattle.stm_terms.specs.UnlessNoMemory.{RefusedAs};
 ghost use Rattle.stm_store.specs.Cells.{Covers};
@@ -10,10 +10,10 @@ ghost use Rattle.stm_queue.specs.Queue.{is_out, queued_again, first_queued};
 ghost use Rattle.stm_desk.specs.DeskView.{state_of};
 ghost use Rattle.stm_desk.specs.Events.{finish_of, HasFinishedBlock};
 ghost use Rattle.stm_desk.specs.Refusals.{submit_refusal, late_declare_refusal, cancel_refusal, finish_refusal};
-ghost use Rattle.stm_pool.specs.Own.{own_of, events_in_passes, having_done};
+ghost use Rattle.stm_pool.specs.Own.{events_in_passes, having_done};
 ghost use Rattle.stm_pool.specs.Lent.{JoinsBoth, DeliversAs, TakesJob};
 ghost use Rattle.stm_pool.specs.Refused.{RefusedUnless, RefusesDeliveryUnless};
-ghost use Rattle.stm_pool.specs.Shown.{IsShown, IsPresentView};
+ghost use Rattle.stm_pool.specs.Shown.{IsShown, IsPresentView, LacksKnown};
 ghost use Rattle.stm_pool.specs.Closing.{Compares, MayClose, IsCloseError};
 
 use crate::errors::{CloseError, ViewError};
@@ -231,9 +231,7 @@ impl<L: Ledger> Guarded<L> {
         ensures shown { IfOk result (λ v.
             IsShown self.now.desk.table self.now.desk.history pass.old pass.new v) }
         ensures unchanged { OnErr result (pass.new ≡ pass.old) }
-        ensures lost { result ≡ Err ViewError.Lost
-            → (own_of pass.old.client self.now.desk.history ≢ pass.old.own)
-            ⊎ (length self.now.desk.history < pass.old.seen) }
+        ensures lost { result ≡ Err ViewError.Lost → LacksKnown self.now.desk.history pass.old }
     {
         if !is_own(pass.client, self.desk.history(), pass.own.as_slice()) {
             return Err(ViewError::Lost);

@@ -4,7 +4,7 @@ ghost use Rattle.std.specs.Prelude.{◌≡◌, ◌+◌, ◌<◌, ◌≤◌, leng
 ghost use Rattle.stm_terms.specs.Limits.{max_levels, max_events as most_events, max_workers};
 ghost use Rattle.stm_pool.specs.Counted.{CountsPasses};
 ghost use Rattle.stm_script.specs.Limits.{max_sections};
-ghost use Rattle.stm_pool.specs.Storms.{CountsDesk};
+ghost use Rattle.stm_pool.specs.Storms.{CountsDesk, IsCountedStorm};
 
 use crate::close::Report;
 use crate::counting::counts_of;
@@ -66,7 +66,7 @@ fn end_of<L: Ledger>(
 ) -> Result<StormEnd, NoMemory>
     requires { clients ≤ shared }
     ensures len { IfOk result (λ e. vec_len e.counts ≡ clients) }
-    ensures end { IfOk result (λ e. IfSome e.report (λ r. CountsDesk e.counts.items r)) }
+    ensures end { IfOk result IsCountedStorm }
 {
     let Returned { passes, extras } = returned;
     if extras.len() != clients || passes.len() != shared.passes as usize {
@@ -94,7 +94,7 @@ fn storm_with<L: Ledger + Send + Sync, R: Threads + Wait + Sync>(
     requires levels { levels ≤ max_levels }
     requires events { max_events ≤ most_events }
     ensures len { IfOk result (λ e. vec_len e.counts ≡ vec_len sections) }
-    ensures end { IfOk result (λ e. IfSome e.report (λ r. CountsDesk e.counts.items r)) }
+    ensures end { IfOk result IsCountedStorm }
 {
     let clients = sections.len();
     let threads = clients as u32 + workers;
@@ -111,6 +111,8 @@ fn storm_with<L: Ledger + Send + Sync, R: Threads + Wait + Sync>(
 /// A client finishes a ticket as soon as it is evaluated, and waits for that if it must. Section
 /// k is client k; the workers are the clients after them. If memory runs out, or a thread can't
 /// be started, the desk is stopped, all threads are joined, and the result is `NoMemory`.
+///
+/// No clause says that a client does the tasks of its section, what was refused or missed, or over which variables the desk was opened.
 pub fn run_storm<R: Threads + Wait + Sync>(
     rt: &R,
     alloc: Global,
@@ -125,8 +127,8 @@ pub fn run_storm<R: Threads + Wait + Sync>(
     requires levels { levels ≤ max_levels }
     requires events { max_events ≤ most_events }
     ensures len { IfOk result (λ e. vec_len e.counts ≡ vec_len sections) }
-    // What the counts say of each client is what the desk's history has of it.
-    ensures end { IfOk result (λ e. IfSome e.report (λ r. CountsDesk e.counts.items r)) }
+    // What each client is counted to have submitted, finished and cancelled is what the closed desk's history has of it.
+    ensures end { IfOk result IsCountedStorm }
 {
     let parts = sections.len() as u64 + u64::from(workers);
     storm_with::<Brand, R>(

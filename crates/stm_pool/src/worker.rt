@@ -35,6 +35,8 @@ pub enum WorkEnd {
 /// Evaluates what is queued until the desk is stopped. If the history is full or memory runs out,
 /// its ticket is queued again and the desk stopped first. Both branches of an `orElse` run at once,
 /// in threads of their own, `levels` deep.
+///
+/// The clause says that the pass comes back with deliveries of this worker and no other new event. How the worker ended is only tested.
 pub fn work<L: Ledger, G: Gate<R>, R: Wait + Threads + Sync>(
     rt: &R,
     alloc: Global,

@@ -41,8 +41,8 @@ failed_lines None = codes "replay failed" ++ 10 ∷ []
 abbrev pub failed_text : List Counts → Option ℕ → List ℕ
 failed_text counts events = client_lines 0 counts ++ failed_lines events
 
--- a text that a storm of a script may write: its counts are those of a history that is legal over the script's variables.
--- Which history that is, and so what is refused or missed, depends on which thread came first
+-- a text that a storm of a script may write: what its counts say was submitted, finished and cancelled is in a history that is legal over
+-- the script's variables. Which history that is depends on which thread came first; what was refused or missed is not in it
 pub record IsStormText (input text : List ℕ) : Type 0 where
   pub script : StormScript
   pub right : storm_script input ≡ Ok script
