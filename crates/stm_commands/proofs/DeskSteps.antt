@@ -45,11 +45,10 @@ use Rattle.stm_source.specs.declared.refusal.Refusal.{Refusal}
 use Rattle.stm_source.specs.CompiledBlock.{compiled_block}
 use Rattle.stm_source.specs.DeclaredVariable.{late_variable_of}
 use Rattle.stm_desk.specs.declared.evaluate.Evaluation.{Evaluation}
-use Rattle.stm_commands.specs.Evaluation.{DeliveredSoFar, evaluated, evaluation_text, eval_desk_step}
+use Rattle.stm_commands.specs.Evaluation.{DeliveredSoFar, delivered_so_far, evaluated, evaluation_text, eval_desk_step}
 use Rattle.stm_commands.specs.Jobs.{max_jobs, jobs_of, taken, jobs_line, with_jobs, take_jobs_step, delivery_refusal, delivery_step, deliver_job_step, queued_line, handed_back, handback_ticket_step}
 use Rattle.stm_commands.specs.Labelling.{labelled_line, label_ticket_step}
 use Rattle.stm_commands.specs.OpenDesk.{HandedOut, OpenDesk, on_desk, known, Steps}
-use Rattle.stm_commands.specs.OpenInvariant.{delivered_so_far}
 use Rattle.stm_commands.specs.Refusals.{refused, late_declare_error_text, submit_error_text, atomic_error_text, label_error_text, finish_error_text, cancel_error_text}
 use Rattle.stm_commands.proofs.EvaluatedHere.{marked_queued}
 

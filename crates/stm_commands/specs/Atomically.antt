@@ -14,7 +14,7 @@ use Rattle.stm_commands.specs.Endings.{finished_line}
 use Rattle.stm_commands.specs.OpenDesk.{OpenDesk, on_desk, known}
 use Rattle.stm_commands.specs.Refusals.{refusal_text, atomic_error_text}
 
--- the line that tells under which ticket a block waits
+-- the line which says under which ticket a block waits
 unfoldable pub waits_line : ℕ → List ℕ
 waits_line t = codes "waits " ++ decimal t ++ 10 ∷ []
 

@@ -43,7 +43,7 @@ looked_text cells (Err e) = refusal_text e
 unfoldable pub looks_answer : OpenDesk → List ℕ → List ℕ
 looks_answer d argument = looked_text (present d) (compiled_block (known d) argument)
 
--- the line that tells a new ticket
+-- the line with a new ticket
 unfoldable pub ticket_line : ℕ → List ℕ
 ticket_line ticket = codes "ticket " ++ decimal ticket ++ 10 ∷ []
 

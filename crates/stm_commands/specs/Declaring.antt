@@ -10,7 +10,7 @@ use Rattle.stm_source.specs.declared.refusal.Refusal.{Refusal}
 use Rattle.stm_commands.specs.OpenDesk.{OpenDesk, on_desk, known}
 use Rattle.stm_commands.specs.Refusals.{refusal_text, late_declare_error_text}
 
--- the line that tells the number and the name of a new variable
+-- the line with the number and the name of a new variable
 unfoldable pub declared_line : ℕ → List ℕ → List ℕ
 declared_line number name = codes "declared #" ++ decimal number ++ 32 ∷ name ++ 10 ∷ []
 

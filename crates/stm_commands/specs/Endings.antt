@@ -27,7 +27,7 @@ use Rattle.stm_commands.specs.Refusals.{finish_error_text, cancel_error_text}
 abbrev pub tickets_text : List ℕ → List ℕ
 tickets_text tickets = list_text decimal tickets
 
--- the line that tells the result of a finish, and the tickets that it made stale
+-- the line with the result of a finish, and the tickets that it made stale
 unfoldable pub result_line : ℕ → Value → List ℕ → List ℕ
 result_line t result stale =
     codes "finished " ++ decimal t
@@ -65,7 +65,7 @@ finish_step d argument =
     (number_argument argument)
 
 -- ---- cancel
--- the line that tells that a block waits no more
+-- the line which says that a block waits no more
 unfoldable pub cancelled_line : ℕ → List ℕ
 cancelled_line t = codes "cancelled " ++ decimal t ++ 10 ∷ []
 
@@ -91,7 +91,7 @@ unfoldable pub drained_line : ℕ → ℕ → List ℕ
 drained_line finished evaluations =
     codes "drained " ++ decimal finished ++ codes " evaluations " ++ decimal evaluations ++ 10 ∷ []
 
--- why settling stopped, before the counts; no line tells an out-of-memory error
+-- why settling stopped, before the counts; no line is printed for an out-of-memory error
 abbrev pub why_text : SettleWhy → List ℕ
 why_text HistoryFull = codes "stopped HistoryFull "
 why_text CellsFull = codes "stopped CellsFull "

@@ -1,10 +1,11 @@
 -- `eval`: all queued blocks are evaluated, and what they do is delivered.
-use Rattle.std.specs.Prelude.{ℕ, ◌+◌, List, [], ◌∷◌, ◌++◌, Option, Some, None, codes, decimal, length}
+use Rattle.std.specs.Prelude.{◌≡◌, ℕ, ◌+◌, List, [], ◌∷◌, ◌++◌, Option, Some, None, codes, decimal, length}
 use Rattle.stm_terms.specs.Changes.{cell_value}
 use Rattle.stm_terms.specs.Verdict.{verdict}
 use Rattle.stm_events.specs.declared.errors.DeliverError.{DeliverError}
 use Rattle.stm_machine.specs.JobsHandedOut.{sent}
 use Rattle.stm_terms.specs.Limits.{max_waiting}
+use Rattle.stm_desk.specs.declared.evaluate.Evaluation.{Evaluation}
 use Rattle.stm_desk.specs.Refusals.{requeued_if_overtaken}
 use Rattle.stm_desk.specs.DeskView.{DeskView, state_of}
 use Rattle.stm_commands.specs.Arguments.{with_nothing, argument_refused}
@@ -37,7 +38,7 @@ abbrev pub delivered_all : DeliveredSoFar → List HandedOut → DeliveredSoFar
 delivered_all d [] = d
 delivered_all d (j ∷ js) = delivered_all (delivered_next d j d.stop) js
 
--- the line that tells how many blocks were evaluated
+-- the line with how many blocks were evaluated
 unfoldable pub evaluated_line : ℕ → List ℕ
 evaluated_line n = codes "evaluated " ++ decimal n ++ 10 ∷ []
 
@@ -51,6 +52,14 @@ evaluated d =
     delivered_all
     (record { desk = record d { pending = sent (length (all_queued d)) d.pending }; count = 0; stop = None })
     (jobs_of (state_of d) (all_queued d))
+
+-- how far the delivery of jobs came, with the desk as it then is
+abbrev pub delivered_so_far : DeskView → Evaluation → DeliveredSoFar
+delivered_so_far d p = record { desk = d; count = p.count; stop = p.stop }
+
+-- all that was queued on the old desk was evaluated and delivered: this is the new desk, the number of deliveries and the first refusal
+abbrev pub EvaluatesQueued : DeskView → DeskView → Evaluation → Type 0
+EvaluatesQueued old new p = delivered_so_far new p ≡ evaluated old
 
 -- an evaluation of all that was queued, by how it ended: how many blocks were evaluated, or the first refusal
 abbrev pub evaluation_text : ℕ → Option DeliverError → List ℕ

@@ -51,7 +51,7 @@ abbrev pub numbered : ℕ → List ℕ → List (ℕ × ℕ)
 numbered n [] = []
 numbered n (t ∷ ts) = (n, t) ∷ numbered (n + 1) ts
 
--- the line that tells the new jobs, the first by this number
+-- the line with the new jobs, the first by this number
 unfoldable pub jobs_line : ℕ → List ℕ → List ℕ
 jobs_line first tickets = codes "jobs " ++ list_text job_text (numbered first tickets) ++ 10 ∷ []
 
@@ -90,7 +90,7 @@ abbrev pub installed : DeskView → ℕ → Option Verdict → DeskView
 installed d t (Some v) = with_event d 0 (Installed t v)
 installed d t None = d
 
--- the line that tells that the verdict of a ticket was taken
+-- the line which says that the verdict of a ticket was taken
 unfoldable pub delivered_line : ℕ → List ℕ
 delivered_line t = codes "delivered " ++ decimal t ++ 10 ∷ []
 
@@ -115,7 +115,7 @@ deliver_step d argument =
     with_number (λ n. on_desk d (deliver_job_step d.desk (job_at n d.jobs))) (d, argument_refused) (number_argument argument)
 
 -- ---- handback
--- the line that tells that a ticket is queued again
+-- the line which says that a ticket is queued again
 unfoldable pub queued_line : ℕ → List ℕ
 queued_line t = codes "queued " ++ decimal t ++ 10 ∷ []
 

@@ -24,7 +24,7 @@ abbrev pub label_text : List ℕ → List ℕ
 label_text label = if length label == 0 then codes "-" else label
 
 -- ---- label
--- the line that tells the label of a block
+-- the line with the label of a block
 unfoldable pub labelled_line : ℕ → List ℕ → List ℕ
 labelled_line t label = codes "labelled " ++ decimal t ++ 32 ∷ label_text label ++ 10 ∷ []
 

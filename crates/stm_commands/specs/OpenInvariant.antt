@@ -19,7 +19,6 @@ use Rattle.stm_source.specs.LaterNames.{NamesFollow}
 use Rattle.stm_desk.specs.Refusals.{RefusesDelivery, requeued_if_overtaken}
 use Rattle.stm_desk.specs.DeskView.{DeskView, start_state, state_of, with_event}
 use Rattle.stm_commands.specs.declared.jobs.KeptJob.{KeptJob}
-use Rattle.stm_desk.specs.declared.evaluate.Evaluation.{Evaluation}
 use Rattle.stm_commands.specs.Evaluation.{DeliveredSoFar}
 use Rattle.stm_commands.specs.Jobs.{deliver_job_step}
 use Rattle.stm_commands.specs.OpenDesk.{HandedOut}
@@ -50,6 +49,10 @@ JobsStand d (j ∷ js) = JobStands d j × JobsStand d js
 -- a kept job with the store at its `take`, whether or not that store is still kept
 abbrev pub job_kept : KeptJob → HandedOut
 job_kept k = record { ticket = k.ticket; block = k.block; store = k.at_take.value }
+
+-- these are the jobs, each kept with this store as that of its `take`
+abbrev pub KeepsJobs : List (Ty × Value) → List Job → List KeptJob → Type 0
+KeepsJobs store jobs made = map job_kept made ≡ map (handed_out store) jobs
 
 -- the job of a kept job, without a store
 abbrev pub job_within : KeptJob → Job
@@ -119,10 +122,6 @@ delivery_result (Some e) = Err e
 -- the delivery of a message is refused for this reason, if there is one; lack of memory is none
 abbrev pub IsRefusedFor : DeskView → Evaluated → Option DeliverError → Type 0
 IsRefusedFor d m reason = RefusesDelivery (delivery_result reason) d m × (reason ≢ Some NoMemory)
-
--- how far the delivery of jobs came, with the desk as it then is
-abbrev pub delivered_so_far : DeskView → Evaluation → DeliveredSoFar
-delivered_so_far d p = record { desk = d; count = p.count; stop = p.stop }
 
 -- how far it came before the first job
 abbrev pub none_delivered : DeskView → DeliveredSoFar

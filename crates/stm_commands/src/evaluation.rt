@@ -12,8 +12,8 @@ ghost use Rattle.stm_events.specs.States.{IsLegalFrom};
 ghost use Rattle.stm_machine.specs.Checkpoints.{MayStart};
 ghost use Rattle.stm_desk.specs.DeskView.{start_state, state_of};
 ghost use Rattle.stm_options.specs.declared.options.TheConstants.Options.{MAX_WORKERS};
-ghost use Rattle.stm_commands.specs.Evaluation.{delivered_next, delivered_all, evaluated};
-ghost use Rattle.stm_commands.specs.OpenInvariant.{handed_out, JobStands, JobsStand, HasGrown, OwnsTicket, OwnTheirTickets, delivered_so_far, none_delivered};
+ghost use Rattle.stm_commands.specs.Evaluation.{EvaluatesQueued, delivered_so_far, delivered_next, delivered_all};
+ghost use Rattle.stm_commands.specs.OpenInvariant.{handed_out, JobStands, JobsStand, HasGrown, OwnsTicket, OwnTheirTickets, none_delivered};
 
 use crate::delivery::deliver_message;
 use crate::threading::Threading;
@@ -62,7 +62,7 @@ fn deliver_next(
     })
 }
 
-/// Delivers the next answer. A job that wasn't evaluated tells that memory ran out.
+/// Delivers the next answer. For a job that wasn't evaluated memory ran out.
 fn deliver_answer(
     desk: &mut Desk,
     answer: Answer,
@@ -208,7 +208,7 @@ fn evaluate_by_threads<T: Threads + Sync>(
 ) -> Result<Evaluation, NoMemory>
     requires start { MayStart desk.old.table desk.old.checkpoint }
     requires legal { IsLegalFrom (start_state desk.old) desk.old.history }
-    ensures done { IfOk result (λ p. delivered_so_far desk.new p ≡ evaluated desk.old) }
+    ensures done { IfOk result (EvaluatesQueued desk.old desk.new) }
     ensures grown { HasGrown desk.old desk.new }
     ensures store { (state_of desk.new).store ≡ (state_of desk.old).store }
 {
@@ -220,7 +220,7 @@ fn evaluate_by_threads<T: Threads + Sync>(
 
 /// Evaluates all that is queued on the desk itself, in ascending order of the tickets.
 pub fn evaluate_here(desk: &mut Desk) -> Result<Evaluation, NoMemory>
-    ensures done { IfOk result (λ p. delivered_so_far desk.new p ≡ evaluated desk.old) }
+    ensures done { IfOk result (EvaluatesQueued desk.old desk.new) }
     ensures grown { HasGrown desk.old desk.new }
     ensures same { (state_of desk.new).store ≡ (state_of desk.old).store }
 {
@@ -278,7 +278,7 @@ pub fn evaluate_queued<T: Threads + Sync>(
     // As the type of a desk keeps it; `Desk::history` says so.
     requires start { MayStart desk.old.table desk.old.checkpoint }
     requires legal { IsLegalFrom (start_state desk.old) desk.old.history }
-    ensures done { IfOk result (λ p. delivered_so_far desk.new p ≡ evaluated desk.old) }
+    ensures done { IfOk result (EvaluatesQueued desk.old desk.new) }
     ensures grown { HasGrown desk.old desk.new }
     ensures same { (state_of desk.new).store ≡ (state_of desk.old).store }
 {

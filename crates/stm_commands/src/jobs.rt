@@ -1,9 +1,9 @@
 //! Jobs that were handed out, each with the store at its `take`.
 
-ghost use Rattle.std.specs.Prelude.{◌≡◌, map, IfOk};
+ghost use Rattle.std.specs.Prelude.{◌≡◌, IfOk};
 ghost use Rattle.std.specs.Option.{option_copied};
 ghost use Rattle.stm_commands.specs.Jobs.{job_at};
-ghost use Rattle.stm_commands.specs.OpenInvariant.{handed_out, job_kept, job_within, IsStored, AreStored};
+ghost use Rattle.stm_commands.specs.OpenInvariant.{handed_out, job_kept, job_within, IsStored, AreStored, KeepsJobs};
 
 use std::alloc::Global;
 use std::snapshot::Snapshot;
@@ -49,10 +49,9 @@ fn keep_job(store: &Frozen, job: Job) -> Result<KeptJob, NoMemory>
     })
 }
 
-/// Jobs, each with the store at its `take`.
+/// The jobs, each kept with this store as that of its `take`.
 pub fn with_store(alloc: Global, store: &Frozen, jobs: Vec<Job>) -> Result<Vec<KeptJob>, NoMemory>
-    ensures kept { IfOk result (λ made.
-        map job_kept made.items ≡ map (handed_out store.now) jobs.items) }
+    ensures kept { IfOk result (λ made. KeepsJobs store.now jobs.items made.items) }
     ensures stored { IfOk result (λ made. AreStored made.items) }
 {
     let mut made = Vec::new(alloc);

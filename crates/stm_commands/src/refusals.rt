@@ -1,4 +1,4 @@
-//! What is printed where a command is refused.
+//! What is printed if a command is refused.
 
 ghost use Rattle.std.specs.Prelude.{◌≢◌, OnOk};
 ghost use Rattle.stm_source.specs.OutOfMemory.{IsOutOfMemory};

@@ -35,7 +35,7 @@ impl OpenDesk {
         }
     }
 
-    /// Answers `cancel`.
+    /// Answers `cancel`: the block under a ticket waits no more.
     #[tactic(auto, unfolding(crate::specs::Endings::cancel_step))]
     pub fn answer_cancel(&mut self, argument: &str, out: &mut String) -> Result<(), NoMemory>
         ensures { TakesStep result self.new out.old out.new (cancel_step self.old argument.now) }

@@ -86,7 +86,7 @@ impl OpenDesk {
         }
     }
 
-    /// Answers `deliver`.
+    /// Answers `deliver`: the verdict of a job's block on the store of its `take` is kept, or refused.
     #[tactic(auto, unfolding(crate::specs::Jobs::deliver_step))]
     pub fn answer_deliver(
         &mut self,

@@ -49,7 +49,8 @@ impl OpenDesk {
         }
     }
 
-    /// Answers `drain`.
+    /// Answers `drain`: all that can run does, the lowest block first.
+    /// Prints how many blocks finished, how many were run, and why it stopped, if a limit stopped it.
     #[tactic(auto, unfolding(crate::specs::Endings::drain_step))]
     pub fn answer_drain(&mut self, argument: &str, out: &mut String) -> Result<(), NoMemory>
         ensures { TakesStep result self.new out.old out.new (drain_step self.old argument.now) }

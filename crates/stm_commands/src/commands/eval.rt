@@ -74,7 +74,7 @@ impl OpenDesk {
         self.eval_here(out)
     }
 
-    /// Answers `eval`.
+    /// Answers `eval`: all queued blocks are evaluated, and what they do is delivered. Prints how many there were, or the first refusal.
     #[tactic(auto, unfolding(crate::specs::Evaluation::eval_step))]
     pub fn answer_eval<T: Threads + Sync>(
         &mut self,

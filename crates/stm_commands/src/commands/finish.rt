@@ -116,7 +116,7 @@ impl OpenDesk {
         }
     }
 
-    /// Answers `finish`.
+    /// Answers `finish`: the block under a ticket takes effect. Prints its result, and the tickets that became stale.
     #[tactic(auto, unfolding(crate::specs::Endings::finish_step))]
     pub fn answer_finish(&mut self, argument: &str, out: &mut String) -> Result<(), NoMemory>
         ensures { TakesStep result self.new out.old out.new (finish_step self.old argument.now) }

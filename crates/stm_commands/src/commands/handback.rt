@@ -29,7 +29,7 @@ impl OpenDesk {
         refuse("NotOut", out)
     }
 
-    /// Answers `handback`.
+    /// Answers `handback`: a ticket that is out is queued again.
     #[tactic(auto, unfolding(crate::specs::Jobs::handback_step))]
     pub fn answer_handback(&mut self, argument: &str, out: &mut String) -> Result<(), NoMemory>
         ensures { TakesStep result self.new out.old out.new (handback_step self.old argument.now) }

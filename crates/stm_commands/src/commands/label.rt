@@ -93,7 +93,7 @@ impl OpenDesk {
         }
     }
 
-    /// Answers `label`.
+    /// Answers `label`: a waiting block gets a label, or has none any more.
     #[tactic(auto, unfolding(crate::specs::Labelling::label_step))]
     pub fn answer_label(&mut self, argument: &str, out: &mut String) -> Result<(), NoMemory>
         ensures { TakesStep result self.new out.old out.new (label_step self.old argument.now) }

@@ -71,7 +71,8 @@ impl OpenDesk {
         }
     }
 
-    /// Answers `settle`.
+    /// Answers `settle`: all that can run does, in a fixed order.
+    /// Prints how many blocks finished, how many were run, and why it stopped, if a limit stopped it.
     #[tactic(auto, unfolding(crate::specs::Endings::settle_step))]
     pub fn answer_settle(&mut self, argument: &str, out: &mut String) -> Result<(), NoMemory>
         ensures { TakesStep result self.new out.old out.new (settle_step self.old argument.now) }

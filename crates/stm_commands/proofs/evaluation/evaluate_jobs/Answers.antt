@@ -1,7 +1,7 @@
 use Rattle.std.proofs.Common.{rules, arith, ◌≡◌, ◌≤◌, ◌+◌, ◌∷◌, ◌++◌, ◌∙◌, [], List, map, length, vec_len, refl, sym, ap, subst, None, IfOk}
 use Rattle.stm_eval.specs.declared.job.Job.{Job}
-use Rattle.stm_commands.specs.Evaluation.{DeliveredSoFar, delivered_all}
-use Rattle.stm_commands.specs.OpenInvariant.{handed_out, delivered_so_far}
+use Rattle.stm_commands.specs.Evaluation.{DeliveredSoFar, delivered_so_far, delivered_all}
+use Rattle.stm_commands.specs.OpenInvariant.{handed_out}
 use Rattle.stm_commands.proofs.EvaluatedJobs.{AreLeft, batch_covered, batch_stands, batch_done, batch_longer, last_batch, batch_fits, rest_fits}
 use Rattle.stm_commands.proofs.Growing.{grown_same, grown_trans}
 use Rattle.stm_commands.proofs.evaluation.evaluate_jobs.Goals as goal
