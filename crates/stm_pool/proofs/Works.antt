@@ -13,6 +13,7 @@ are_installed-append (x ∷ xs) ys p q =
 pub worked_on : (a b c : Known) → OnlyDelivers a b → OnlyDelivers b c → OnlyDelivers a c
 worked_on a b c p q = record {
   client = q.client ∙ p.client;
+  seen = q.seen ∙ p.seen;
   added = p.added ++ q.added;
   own = q.own ∙ ap (λ l. l ++ q.added) p.own ∙ append_assoc a.own p.added q.added;
   installed = are_installed-append p.added q.added p.installed q.installed;

@@ -9,9 +9,10 @@ abbrev pub are_installed : List Event → Bool
 are_installed [] = true
 are_installed (e ∷ es) = is_install e.what && are_installed es
 
--- it is the pass of the same client, to whose events only deliveries were added
+-- it is the pass of the same client, which has seen no more than before, and to whose events only deliveries were added
 pub record OnlyDelivers (old new : Known) : Type 0 where
   pub client : new.client ≡ old.client
+  pub seen : new.seen ≡ old.seen
   pub added : List Event
   pub own : new.own ≡ old.own ++ added
   pub installed : are_installed added ≡ true
