@@ -112,7 +112,8 @@ fn storm_with<L: Ledger + Send + Sync, R: Threads + Wait + Sync>(
 /// k is client k; the workers are the clients after them. If memory runs out, or a thread can't
 /// be started, the desk is stopped, all threads are joined, and the result is `NoMemory`.
 ///
-/// No clause says that a client does the tasks of its section, what was refused or missed, or over which variables the desk was opened.
+/// No clause says that a client does the tasks of its section, what was refused or missed, over which variables the desk was opened, or
+/// when it couldn't be closed.
 pub fn run_storm<R: Threads + Wait + Sync>(
     rt: &R,
     alloc: Global,
