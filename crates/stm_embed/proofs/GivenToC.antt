@@ -51,6 +51,7 @@ pub feeds : (lent old mid new : Embedded) (lines out : List ℕ) (t : Taken) (ro
     → Feeds old new lines room out (record { taken = t.count; given = given; waiting = waiting })
 feeds lent old mid new lines out t room given waiting same taken few front left waits = record {
   taken = taken.few;
+  whole = taken.whole;
   answers = ap (λ (e : Embedded). unread_answers e ++ answers_to (console_of e) (lines_taken t.count lines)) (sym same) ∙ sym taken.answers ∙ front;
   given = few;
   room_left = left;

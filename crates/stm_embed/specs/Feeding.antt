@@ -23,11 +23,11 @@ IsNew events e = (console_of e ≡ initial_console (min events max_events)) × (
 abbrev pub HasOnly : List ℕ → Embedded → Type 0
 HasOnly bytes e = (console_of e ≡ initial_console 0) × (unread_answers e ≡ bytes)
 
--- ---- inside
--- some bytes are whole lines: what follows them begins a line
+-- the bytes are whole lines, with no part of another: whatever follows them begins a line
 abbrev pub AreWholeLines : List ℕ → Type 0
 AreWholeLines bytes = (more : List ℕ) → whole_lines_of (bytes ++ more) ≡ whole_lines_of bytes ++ whole_lines_of more
 
+-- ---- inside
 -- from the console s, and these answers, this many bytes of lines were taken: now these are the console and the answers
 pub record HasFed (lines : List ℕ) (s t : Console) (before after : List ℕ) (count : ℕ) : Type 0 where
   pub within : count ≤ length lines

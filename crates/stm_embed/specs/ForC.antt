@@ -13,18 +13,20 @@ use Rattle.stm_embed.specs.declared.feeding.Fed.{Fed}
 use Rattle.stm_embed.specs.declared.feeding.Taken.{Taken}
 use Rattle.stm_embed.specs.Checking.{IsJudgement, found_status, numbers_of}
 use Rattle.stm_embed.specs.Exploring.{AreDiagnosticsOf, IsExplored, diagnosed_text, ended_status, invalid_line}
-use Rattle.stm_embed.specs.Feeding.{HasOnly, console_of, unread_answers}
+use Rattle.stm_embed.specs.Feeding.{AreWholeLines, HasOnly, console_of, unread_answers}
 use Rattle.stm_embed.specs.Status.{all_taken, no_memory, part_of_line, taken_status}
 
 -- ---- lines that are fed
--- the whole lines among the first bytes, which were taken
+-- the lines among this many first bytes, which were taken
 abbrev pub lines_taken : ℕ → List ℕ → List (List ℕ)
 lines_taken count lines = whole_lines_of (take count lines)
 
--- A call took bytes of these lines, and gave answers into this much room.
+-- A call took whole lines from the front of these bytes, and gave answers into this much room.
 pub record Feeds (old new : Embedded) (lines : List ℕ) (room : ℕ) (out : List ℕ) (fed : Fed) : Type 0 where
   -- no more bytes were taken than there are
   pub taken : fed.taken ≤ length lines
+  -- they are whole lines: no part of a line was taken, whatever the status is
+  pub whole : AreWholeLines (take fed.taken lines)
   -- what was given, and what still waits, is what waited, and then the answers to the lines that were taken
   pub answers : unread_answers old ++ answers_to (console_of old) (lines_taken fed.taken lines) ≡ take fed.given out ++ unread_answers new
   -- no more was given than there is room for, and nothing waits while there is room
@@ -74,10 +76,12 @@ GivesCheck history status checked =
     (found : Found) × IsJudgement history found × (status ≡ found_status found) × (checked ≡ numbers_of found)
 
 -- ---- inside
--- the console took bytes of these lines, and keeps the answers
+-- the console took lines from the front of these bytes, and keeps the answers
 pub record TakesLines (old new : Embedded) (lines : List ℕ) (t : Taken) : Type 0 where
   pub few : t.count ≤ length lines
-  -- the answers to the whole lines among them wait after those that waited
+  -- they are whole lines
+  pub whole : AreWholeLines (take t.count lines)
+  -- the answers to these lines wait after those that waited
   pub answers : unread_answers new ≡ unread_answers old ++ answers_to (console_of old) (lines_taken t.count lines)
   -- unless memory ran out the console is the one after these lines, and no whole line is left
   pub console : t.is_out_of_memory ≡ false → console_of new ≡ state_after_lines (console_of old) (lines_taken t.count lines)

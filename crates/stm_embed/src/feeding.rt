@@ -4,7 +4,7 @@ ghost use Rattle.std.specs.Prelude.{◌≡◌, ◌<◌, ◌≤◌, false, [], �
 ghost use Rattle.stm_lines.specs.Lines.{drop_return, whole_lines_of, NoLineFeed};
 ghost use Rattle.stm_run.specs.Console.{answer_to, answers_to, initial_console, state_after};
 ghost use Rattle.stm_run.specs.AfterLines.{state_after_lines};
-ghost use Rattle.stm_embed.specs.Feeding.{console_of, unread_answers};
+ghost use Rattle.stm_embed.specs.Feeding.{AreWholeLines, console_of, unread_answers};
 ghost use Rattle.stm_embed.specs.ForC.{KeepsExploration, TakesLines, fed_status};
 
 use crate::exploring::{Ended, explore_script};
@@ -102,6 +102,7 @@ fn answer_line(
 /// Answers the whole lines among some bytes, one after another.
 fn answer_lines(session: &mut Session, alloc: Global, lines: &[u8], answers: &mut Vec<u8>) -> Taken
     ensures few { result.count ≤ length lines.now }
+    ensures whole { AreWholeLines (take result.count lines.now) }
     ensures answers { answers.new.items ≡ answers.old.items
         ++ answers_to session.old.console (whole_lines_of (take result.count lines.now)) }
     ensures console { result.is_out_of_memory ≡ false → session.new.console

@@ -94,7 +94,7 @@ pub extern "C" fn stmdesk_feed(
     out: &mut [u8],
     fed: &mut Fed,
 ) -> u32
-    // Lines were taken from the front, and answers given.
+    // Whole lines were taken from the front, and answers given.
     ensures fed { Feeds desk.old.embedded desk.new.embedded lines.now
         (length out.old) out.new fed.new }
     // The status says how far.

@@ -14,6 +14,9 @@ loop-end-preserved c =
     c.without_return-line.result.now c.loop-end.invariant (subst (λ (l : List ℕ). IsFirstByte (is_byte 10) l (Some c.in-Some.end)) (tail_is lines at) c.in-Some.ensures)
     (c.without_return-line.ensures ∙ ap drop_return (part_is lines at c.in-Some.end)) c.in-Ok.ensures.state c.in-Ok.ensures.done
 
+pub returns-clause-whole : goal.returns-clause-whole
+returns-clause-whole c = c.loop-end.invariant.whole
+
 pub returns-clause-rest : goal.returns-clause-rest
 returns-clause-rest c =
     let lines = c.args.lines.now in
