@@ -342,8 +342,8 @@ IsOfFile (Journal e) = ⊥
 IsOfFile (History f) = ⊤
 IsOfFile Foreign = ⊤
 
--- A file was opened, and this was loaded of it.
-pub record IsOpened {D : Type 0} (disk : Disk D) (f : HistoryFile D) (loaded : Option Loaded) : Type 0 where
+-- A run can go on in this file from what was loaded of it, as after `open_history`.
+pub record CanGoOnFrom {D : Type 0} (disk : Disk D) (f : HistoryFile D) (loaded : Option Loaded) : Type 0 where
   -- a desk can go on from what was loaded
   pub resumable : IfSome loaded IsResumable
   -- the file has exactly this history, or nothing yet, and more can be recorded after it

@@ -1,7 +1,7 @@
 //! From the bytes of a reader to the bytes of a writer, with the events in a file.
 
 ghost use Rattle.std.specs.Prelude.{◌≡◌, ◌≢◌, ◌+◌, ◌<◌, ◌≤◌, [], true, ℕ, Ok, length, string_bytes, OnOk, IfOk, IfErr, IfSome, IsErrOf};
-ghost use Rattle.stm_history_file.specs.Durable.{IsOpened};
+ghost use Rattle.stm_history_file.specs.Durable.{CanGoOnFrom};
 ghost use Rattle.stm_history.specs.Loading.{IsResumable};
 ghost use Rattle.stm_lines.specs.TakenLines.{bytes_to_come};
 ghost use Rattle.stm_lines.specs.Unread.{unread};
@@ -235,7 +235,7 @@ pub fn run_durable<T: Threads + RandomSource + Sync, R: Read, W: Write, D: Repla
 ) -> Result<(), DurableFault>
     requires options { AreRunOptions options }
     // As `open_history` returns them.
-    requires opened { IsOpened D.disk file.old loaded }
+    requires opened { CanGoOnFrom D.disk file.old loaded }
     requires fits { IfSome loaded (λ h. length h.events.items ≤ options.max_events) }
     // What was written, and what the file has: a crash now, and one at any moment of the run, leaves a file that covers what was written.
     ensures { EndsRun D.disk file.old file.new (run_view options loaded
