@@ -11,24 +11,24 @@ use Rattle.stm_run.specs.declared.reply.Reply.{Reply}
 use Rattle.stm_run.specs.declared.reply.Reply.TheVariants as reply
 use Rattle.stm_run.specs.Console.{step}
 use Rattle.stm_run.specs.ConsoleState.{present_desk, events_of}
-use Rattle.stm_run.specs.LineCheckpoints.{auto_step, is_streamed, line_checkpoints, made_step, refused_step}
+use Rattle.stm_run.specs.LineCheckpoints.{asked_checkpoint_step, auto_step, is_streamed, line_checkpoints, made_step, refused_step}
 use Rattle.stm_journaled_run.specs.declared.fault.DurableFault.{DurableFault}
 use Rattle.stm_journaled_run.specs.declared.session.Taken.{Taken}
 use Rattle.stm_journaled_run.specs.declared.session.Taken.TheVariants.{Unmade, Streamed}
 use Rattle.stm_journaled_run.specs.DurableRun.{KeepsConsoles}
-use Rattle.stm_journaled_run.specs.Committing.{asked_step, no_checkpoint_text, has_begun, HasNotTaken, HasTakenLine}
+use Rattle.stm_journaled_run.specs.Committing.{no_checkpoint_text, has_begun, HasNotTaken, HasTakenLine}
 use Rattle.stm_journaled_run.proofs.Committing.{reply_text, streamed_step}
 use Rattle.stm_journaled_run.proofs.Taking.{asked_state, asked_text, refused_is, taken_as, unrefused}
 
 module _ {D : Type 0} (disk : Disk D) (old new : HistoryFile D) (every : ℕ) (s t u : Console) (line before mid after : List ℕ) (n n' m : ℕ) where
   -- the line asked for it
-  pub asked_taken : (r : Result Taken DurableFault) → step s line ≡ asked_step t → t ≡ Open (present_desk s) → n' ≡ n → mid ≡ before → not (are_tickets_full (present_desk s)) ≡ line_checkpoints s line
+  pub asked_taken : (r : Result Taken DurableFault) → step s line ≡ asked_checkpoint_step t → t ≡ Open (present_desk s) → n' ≡ n → mid ≡ before → not (are_tickets_full (present_desk s)) ≡ line_checkpoints s line
       → IfOk r (λ k. k ≡ Unmade → are_tickets_full (present_desk t) ≡ false)
-      → IfOk r (λ k. HasTakenLine disk old new (asked_step t) (t, no_checkpoint_text) u mid after n' m k)
+      → IfOk r (λ k. HasTakenLine disk old new (asked_checkpoint_step t) (t, no_checkpoint_text) u mid after n' m k)
       → IfOk r (λ k. HasTakenLine disk old new (made_step every s line) (refused_step s line) u before after n m k)
   asked_taken (Err e) is opened count text told room h = tt
   asked_taken (Ok k) is opened count text told room h =
-      taken_as disk old new (asked_step t) (made_step every s line) (t, no_checkpoint_text) (refused_step s line) u before mid after n' n m k count
+      taken_as disk old new (asked_checkpoint_step t) (made_step every s line) (t, no_checkpoint_text) (refused_step s line) u before mid after n' n m k count
       (asked_state every s t line is opened)
       (ap₂ (λ (a b : List ℕ). a ++ b) text (asked_text every s t line is opened))
       (λ unmade. let v = refused_is every s t line is opened (room unmade) told in (
@@ -38,12 +38,12 @@ module _ {D : Type 0} (disk : Disk D) (old new : HistoryFile D) (every : ℕ) (s
       h
 
   -- it is due after the line
-  pub due_taken : (r : Result Taken DurableFault) → (asked_step t).0 ≡ auto_step every s t → t ≡ (step s line).0 → mid ≡ before ++ (step s line).1 → n' ≡ n → false ≡ line_checkpoints s line
-      → IfOk r (λ k. HasTakenLine disk old new ((asked_step t).0, []) (t, []) u mid after n' m k)
+  pub due_taken : (r : Result Taken DurableFault) → (asked_checkpoint_step t).0 ≡ auto_step every s t → t ≡ (step s line).0 → mid ≡ before ++ (step s line).1 → n' ≡ n → false ≡ line_checkpoints s line
+      → IfOk r (λ k. HasTakenLine disk old new ((asked_checkpoint_step t).0, []) (t, []) u mid after n' m k)
       → IfOk r (λ k. HasTakenLine disk old new (made_step every s line) (refused_step s line) u before after n m k)
   due_taken (Err e) is state text count makes h = tt
   due_taken (Ok k) is state text count makes h =
-      taken_as disk old new ((asked_step t).0, []) (made_step every s line) (t, []) (refused_step s line) u before mid after n' n m k count
+      taken_as disk old new ((asked_checkpoint_step t).0, []) (made_step every s line) (t, []) (refused_step s line) u before mid after n' n m k count
       (is ∙ ap (auto_step every s) state)
       (append-nil mid ∙ text)
       (λ unmade. let v = unrefused s line makes in (

@@ -23,7 +23,7 @@ use Rattle.stm_run.specs.Console.{on_console, step}
 use Rattle.stm_run.specs.ConsoleState.{present_desk, is_open, table_of, checkpoint_of_console, events_of, with_checkpoint}
 use Rattle.stm_run.specs.Fitting.{VariablesFit}
 use Rattle.stm_run.specs.Growing.{Grows}
-use Rattle.stm_run.specs.LineCheckpoints.{auto_checkpoint, auto_step, line_checkpoints, made_step, refused_step}
+use Rattle.stm_run.specs.LineCheckpoints.{asked_checkpoint_step, auto_checkpoint, auto_step, line_checkpoints, made_step, refused_step}
 use Rattle.stm_run.proofs.EventsOfConsole.{grows_not}
 use Rattle.stm_journaled_run.specs.declared.session.Taken.{Taken}
 use Rattle.stm_journaled_run.specs.declared.session.Taken.TheVariants.{Held, Begun, Unmade, Streamed}
@@ -31,7 +31,7 @@ use Rattle.stm_journaled_run.specs.declared.fault.DurableFault.TheVariants.{Run,
 use Rattle.stm_journaled_run.specs.declared.session.Tried.TheVariants.{Made, TicketsFull, RefusedByFile}
 use Rattle.stm_journaled_run.specs.DurableRun.{ConsoleKept, KeepsConsole, KeepsConsoles, RecordsUnlessDisk, RunsUnlessDisk, RefusalCause, LeavesBetween}
 use Rattle.stm_journaled_run.specs.NewEvents.{MayBeginRun}
-use Rattle.stm_journaled_run.specs.Committing.{MayBeginAnew, asked_step, no_checkpoint_text, HasTriedCheckpoint, HasTakenLine, HasNotTaken, TakingLeaves, BeginningLeaves, BeginningLeavesEither}
+use Rattle.stm_journaled_run.specs.Committing.{MayBeginAnew, no_checkpoint_text, HasTriedCheckpoint, HasTakenLine, HasNotTaken, TakingLeaves, BeginningLeaves, BeginningLeavesEither}
 use Rattle.stm_journaled_run.proofs.Committing.{none_due, anew_after}
 use Rattle.stm_journaled_run.proofs.RecordedEvents.{between_still}
 
@@ -41,7 +41,7 @@ abbrev asked_by : Console → Bool → Console × List ℕ
 asked_by s b =
     on_console (cond {A = OpenDesk × List ℕ} b (present_desk s, refused (codes "TicketsFull")) (begun_anew (present_desk s), checkpoint_line (length (events_of s))))
 
-pub asked_made : (s : Console) → are_tickets_full (present_desk s) ≡ false → asked_step s ≡ (with_checkpoint s, checkpoint_line (length (events_of s)))
+pub asked_made : (s : Console) → are_tickets_full (present_desk s) ≡ false → asked_checkpoint_step s ≡ (with_checkpoint s, checkpoint_line (length (events_of s)))
 asked_made s e = ap (asked_by s) e
 
 few_by : (s : Console) (b : Bool) → length (events_of (asked_by s b).0) ≤ length (events_of s)
@@ -49,7 +49,7 @@ few_by s true = omega arith
 few_by s false = omega arith
 
 -- it leaves no lt-ltb events
-few_asked : (s : Console) → length (events_of (asked_step s).0) ≤ length (events_of s)
+few_asked : (s : Console) → length (events_of (asked_checkpoint_step s).0) ≤ length (events_of s)
 few_asked s = few_by s (are_tickets_full (present_desk s))
 
 -- ---- the checkpoint that is due after a line
@@ -70,7 +70,7 @@ too_few m n x h = ap (λ (b : Bool). b && x) (fewer m n h)
     fewer : (m n : ℕ) → n < m → nat_le m n ≡ false
     fewer m n h = grind (arith, nat_tests)
 
-pub asked_is_due : (every : ℕ) (s : Console) → is_open s ≡ true → every ≤ length (events_of s) → (asked_step s).0 ≡ auto_checkpoint every s
+pub asked_is_due : (every : ℕ) (s : Console) → is_open s ≡ true → every ≤ length (events_of s) → (asked_checkpoint_step s).0 ≡ auto_checkpoint every s
 asked_is_due every (Declaring table limit) o h = absurd (cc o)
 asked_is_due every (Open d) o h =
     due_by d (nat_le every (length d.desk.history)) (nat_le (state_of d.desk).next max_next) (are_tickets_full d) (refused (codes "TicketsFull")) (checkpoint_line (length d.desk.history))
@@ -90,7 +90,7 @@ pub undue : (every : ℕ) (s t : Console) → length (events_of t) ≤ length (e
 undue every s t (inl h) = none_due every s t h
 undue every s t (inr h) = stays_by (nat_lt (length (events_of s)) (length (events_of t))) (auto_checkpoint every t) t (none_due_yet every t h)
 
-pub due : (every : ℕ) (s t : Console) → is_open t ≡ true → length (events_of s) < length (events_of t) → every ≤ length (events_of t) → (asked_step t).0 ≡ auto_step every s t
+pub due : (every : ℕ) (s t : Console) → is_open t ≡ true → length (events_of s) < length (events_of t) → every ≤ length (events_of t) → (asked_checkpoint_step t).0 ≡ auto_step every s t
 due every s t o m h =
     asked_is_due every t o h ∙ sym (ap (λ (b : Bool). cond {A = Console} b (auto_checkpoint every t) t) (lt-ltb (length (events_of s)) (length (events_of t)) m))
 
@@ -100,16 +100,16 @@ open_with s (Declaring table limit) h = absurd (omega arith)
 open_with s (Open d) h = refl
 
 -- ---- a line that asks for a checkpoint
-module _ (every : ℕ) (s t : Console) (line : List ℕ) (is : step s line ≡ asked_step t) (opened : t ≡ Open (present_desk s)) where
+module _ (every : ℕ) (s t : Console) (line : List ℕ) (is : step s line ≡ asked_checkpoint_step t) (opened : t ≡ Open (present_desk s)) where
   same_events : length (events_of t) ≡ length (events_of s)
   same_events = ap (λ (c : Console). length (events_of c)) opened
 
-  pub asked_state : (asked_step t).0 ≡ (made_step every s line).0
+  pub asked_state : (asked_checkpoint_step t).0 ≡ (made_step every s line).0
   asked_state =
       sym (ap (λ (p : Console × List ℕ). auto_step every s p.0) is
-      ∙ none_due every s (asked_step t).0 (subst (λ (n : ℕ). length (events_of (asked_step t).0) ≤ n) same_events (few_asked t)))
+      ∙ none_due every s (asked_checkpoint_step t).0 (subst (λ (n : ℕ). length (events_of (asked_checkpoint_step t).0) ≤ n) same_events (few_asked t)))
 
-  pub asked_text : (asked_step t).1 ≡ (made_step every s line).1
+  pub asked_text : (asked_checkpoint_step t).1 ≡ (made_step every s line).1
   asked_text = sym (ap (λ (p : Console × List ℕ). p.1) is)
 
   pub refused_is : are_tickets_full (present_desk t) ≡ false → not (are_tickets_full (present_desk s)) ≡ line_checkpoints s line → (t, no_checkpoint_text) ≡ refused_step s line
@@ -136,7 +136,7 @@ module _ {D : Type 0} (disk : Disk D) (old new : HistoryFile D) where
   taken_as made made' unmade unmade' t before mid after n n' m (Streamed r) count state text other h = (h.0 ∙ state, h.1 ∙ text, h.2 ∙ count, h.3)
 
   -- ---- what a crash leaves meanwhile
-  pub taking_leaves : (s t made : Console) (n : ℕ) → Grows s t → VariablesFit (table_of t) → (asked_step t).0 ≡ made → BeginningLeavesEither disk old new t → TakingLeaves disk old new s n made
+  pub taking_leaves : (s t made : Console) (n : ℕ) → Grows s t → VariablesFit (table_of t) → (asked_checkpoint_step t).0 ≡ made → BeginningLeavesEither disk old new t → TakingLeaves disk old new s n made
   taking_leaves s t made n g v is h = λ honest c.
       subst (λ (x : Console). LeavesOnly disk old.journal.device new.journal.device
       (λ f. LeavesBetween old.journal.sync disk.fills_with_zeros c.committed c.committed f ⊎ LeavesBetween old.journal.sync disk.fills_with_zeros c.committed x f)) is
@@ -161,7 +161,7 @@ module _ {D : Type 0} (disk : Disk D) (f : HistoryFile D) (now : (c : List ℕ) 
   taking_still s made n = λ honest c. still c.committed made (c.kept.1 honest)
 
   pub either_still : (t : Console) → BeginningLeavesEither disk f f t
-  either_still t = λ honest c. still c.committed (asked_step t).0 (c.kept.1 honest)
+  either_still t = λ honest c. still c.committed (asked_checkpoint_step t).0 (c.kept.1 honest)
 
 -- ---- a checkpoint that was tried
 -- why it can't be recorded
@@ -189,7 +189,7 @@ module _ {D : Type 0} (disk : Disk D) (old new : HistoryFile D) (s t : Console) 
 
   module _ (mid after : List ℕ) where
     abbrev Asked : Taken → Type 0
-    Asked k = HasTakenLine disk old new (asked_step s) (s, no_checkpoint_text) t mid after n n' k
+    Asked k = HasTakenLine disk old new (asked_checkpoint_step s) (s, no_checkpoint_text) t mid after n n' k
 
     pub asked_begun : (count : ℕ) → HasTriedCheckpoint disk old new s t n n' (Made count) → after ≡ mid ++ checkpoint_line count → Asked Begun
     asked_begun count h text =
@@ -202,10 +202,10 @@ module _ {D : Type 0} (disk : Disk D) (old new : HistoryFile D) (s t : Console) 
     asked_unmade h text = (h.1, text, h.2, h.3, h.4)
 
   -- memory ran out after it
-  pub made_untaken : (count : ℕ) → HasTriedCheckpoint disk old new s t n n' (Made count) → HasNotTaken disk old new (asked_step s).0 (Run NoMemoryLeft)
+  pub made_untaken : (count : ℕ) → HasTriedCheckpoint disk old new s t n n' (Made count) → HasNotTaken disk old new (asked_checkpoint_step s).0 (Run NoMemoryLeft)
   made_untaken count h = (λ e. cc e, inr (subst (KeepsConsole disk new) (sym (ap (λ (p : Console × List ℕ). p.0) h.0)) h.2))
 
-  pub kept_untaken : KeepsConsoles disk old new → HasNotTaken disk old new (asked_step s).0 (Run NoMemoryLeft)
+  pub kept_untaken : KeepsConsoles disk old new → HasNotTaken disk old new (asked_checkpoint_step s).0 (Run NoMemoryLeft)
   kept_untaken keeps = (λ e. cc e, inl keeps)
 
 -- what is reported changes nothing

@@ -8,7 +8,7 @@ use Rattle.stm_journal.specs.declared.sync_mode.SyncMode.{SyncMode}
 use Rattle.stm_journal.specs.Disk.{Disk, LeavesOnly}
 use Rattle.stm_history_file.specs.Durable.{HistoryKept, LeavesHistory, MayBecome}
 use Rattle.stm_history_file.specs.declared.recording.HistoryFile.{HistoryFile}
-use Rattle.stm_commands.specs.Checkpointing.{are_tickets_full, checkpoint_line, bare_checkpoint_step}
+use Rattle.stm_commands.specs.Checkpointing.{are_tickets_full, checkpoint_line}
 use Rattle.stm_commands.specs.Refusals.{refused}
 use Rattle.stm_lines.specs.Lines.{lines_of, whole_lines_of}
 use Rattle.stm_lines.specs.declared.run_fault.RunFault.TheVariants.{Read}
@@ -16,11 +16,10 @@ use Rattle.stm_run.specs.declared.console.Console.{Console}
 use Rattle.stm_run.specs.declared.reply.Reply.{Reply}
 use Rattle.stm_run.specs.declared.reply.Reply.TheVariants as reply
 use Rattle.stm_run.specs.Abstraction.{history_of, later_events_of}
-use Rattle.stm_run.specs.Console.{on_console}
 use Rattle.stm_run.specs.ConsoleState.{present_desk, table_of, events_of, with_checkpoint}
 use Rattle.stm_run.specs.Fitting.{VariablesFit}
 use Rattle.stm_run.specs.Growing.{Grows}
-use Rattle.stm_run.specs.LineCheckpoints.{Turn, turn_lines, states_after, answers_by, ForTurns}
+use Rattle.stm_run.specs.LineCheckpoints.{Turn, asked_checkpoint_step, turn_lines, states_after, answers_by, ForTurns}
 use Rattle.stm_journaled_run.specs.declared.fault.DurableFault.{DurableFault}
 use Rattle.stm_journaled_run.specs.declared.fault.DurableFault.TheVariants.{Run, Journal}
 use Rattle.stm_journaled_run.specs.declared.session.Taken.{Taken}
@@ -204,10 +203,6 @@ abbrev pub BeginsOrKeeps : {D : Type 0} → Disk D → HistoryFile D → History
 BeginsOrKeeps disk old new console begun =
     MatchBool begun (KeepsConsole disk new console × MayBeginRun console) (KeepsConsoles disk old new × RefusalCause disk)
 
--- what a checkpoint leaves that was asked for: the desk is as it was, unless it can be made
-abbrev pub asked_step : Console → Console × List ℕ
-asked_step s = on_console (bare_checkpoint_step (present_desk s))
-
 -- the answer to `checkpoint` if it can't be made
 abbrev pub no_checkpoint_text : List ℕ
 no_checkpoint_text = refused (codes "NoCheckpoint")
@@ -218,14 +213,14 @@ BeginningLeavesEither disk old new console =
     IsTrue disk.is_honest → (c : MayBeginAnew (KeepsConsole disk old) (with_checkpoint console))
     → LeavesOnly disk old.journal.device new.journal.device
     (λ f. LeavesBetween old.journal.sync disk.fills_with_zeros c.committed c.committed f
-    ⊎ LeavesBetween old.journal.sync disk.fills_with_zeros c.committed (asked_step console).0 f)
+    ⊎ LeavesBetween old.journal.sync disk.fills_with_zeros c.committed (asked_checkpoint_step console).0 f)
 
 -- what is known of a checkpoint that was tried on an open desk
 abbrev pub HasTriedCheckpoint : {D : Type 0} → Disk D → HistoryFile D → HistoryFile D → Console → Console → ℕ → ℕ → Tried → Type 0
 HasTriedCheckpoint disk old new s t recorded recorded' (Made n) =
-    (asked_step s ≡ (t, checkpoint_line n)) × (recorded' ≡ length (events_of t)) × KeepsConsole disk new t × MayBeginRun t
+    (asked_checkpoint_step s ≡ (t, checkpoint_line n)) × (recorded' ≡ length (events_of t)) × KeepsConsole disk new t × MayBeginRun t
 HasTriedCheckpoint disk old new s t recorded recorded' TicketsFull =
-    (asked_step s ≡ (t, refused (codes "TicketsFull"))) × (t ≡ s) × (recorded' ≡ recorded) × KeepsConsoles disk old new
+    (asked_checkpoint_step s ≡ (t, refused (codes "TicketsFull"))) × (t ≡ s) × (recorded' ≡ recorded) × KeepsConsoles disk old new
 HasTriedCheckpoint disk old new s t recorded recorded' RefusedByFile =
     (are_tickets_full (present_desk s) ≡ false) × (t ≡ s) × (recorded' ≡ recorded) × KeepsConsoles disk old new × RefusalCause disk
 

@@ -6,7 +6,7 @@ ghost use Rattle.stm_desk.specs.Checkpointed.{checkpoint_now};
 ghost use Rattle.stm_journal.specs.declared.error.JournalError.TheVariants.{NoMemory as OutOfMemory};
 ghost use Rattle.stm_journal.specs.Replacing.{OnRefused, journal_result};
 ghost use Rattle.stm_run.specs.declared.console.Console.TheVariants.{Open};
-ghost use Rattle.stm_run.specs.ConsoleState.{present_desk, is_open, table_of, with_checkpoint};
+ghost use Rattle.stm_run.specs.ConsoleState.{present_checkpoint, is_open, table_of, with_checkpoint};
 ghost use Rattle.stm_journaled_run.specs.DurableRun.{RecordsUnlessDisk, RunsUnlessDisk, KeepsConsole, KeepsConsoles};
 ghost use Rattle.stm_journaled_run.specs.Committing.{MayBeginAnew, BeginningLeaves, BeginsOrKeeps};
 ghost use Rattle.stm_journaled_run.specs.NewEvents.{MayBeginRun};
@@ -58,7 +58,7 @@ fn begin_file_anew<D: Replace + Drop>(
 ) -> Result<(), ReplaceError>
     requires open { is_open console.now ≡ true }
     requires may { MayBeginAnew (KeepsConsole D.disk file.old) (with_checkpoint console.now) }
-    requires taken { checkpoint.now ≡ checkpoint_now (present_desk console.now).desk }
+    requires taken { checkpoint.now ≡ present_checkpoint console.now }
     requires start { MayStart (table_of console.now) (Some checkpoint.now) }
     ensures kept { OnOk result (KeepsConsole D.disk file.new (with_checkpoint console.now)) }
     ensures may_begin { OnOk result (MayBeginRun (with_checkpoint console.now)) }
@@ -98,7 +98,7 @@ pub(crate) fn begin_or_report<D: Replace + Drop>(
 ) -> Result<bool, DurableFault>
     requires open { is_open console.now ≡ true }
     requires may { MayBeginAnew (KeepsConsole D.disk file.old) (with_checkpoint console.now) }
-    requires taken { checkpoint.now ≡ checkpoint_now (present_desk console.now).desk }
+    requires taken { checkpoint.now ≡ present_checkpoint console.now }
     requires start { MayStart (table_of console.now) (Some checkpoint.now) }
     ensures begun { IfOk result (BeginsOrKeeps D.disk file.old file.new (with_checkpoint console.now)) }
     ensures sync { file.new.journal.sync ≡ file.old.journal.sync }

@@ -10,15 +10,14 @@ ghost use Rattle.stm_lines.specs.WrittenFronts.{WritesText};
 ghost use Rattle.stm_run.specs.Abstraction.{IsStep};
 ghost use Rattle.stm_run.specs.Console.{step};
 ghost use Rattle.stm_machine.specs.Checkpoints.{MayStart};
-ghost use Rattle.stm_desk.specs.Checkpointed.{checkpoint_now};
 ghost use Rattle.stm_commands.specs.Checkpointing.{are_tickets_full};
 ghost use Rattle.stm_run.specs.declared.console.Console.TheVariants.{Open};
-ghost use Rattle.stm_run.specs.ConsoleState.{present_desk, is_open, table_of, events_of, with_checkpoint};
+ghost use Rattle.stm_run.specs.ConsoleState.{present_checkpoint, present_desk, is_open, table_of, events_of, with_checkpoint};
 ghost use Rattle.stm_run.specs.Fitting.{VariablesFit};
 ghost use Rattle.stm_run.specs.Growing.{Grows};
-ghost use Rattle.stm_run.specs.LineCheckpoints.{asks_checkpoint, reply_checkpoints, line_checkpoints, is_streamed, refused_step, made_step};
+ghost use Rattle.stm_run.specs.LineCheckpoints.{asked_checkpoint_step, asks_checkpoint, reply_checkpoints, line_checkpoints, is_streamed, refused_step, made_step};
 ghost use Rattle.stm_journaled_run.specs.DurableRun.{RunsUnlessDisk, RefusalCause, KeepsConsole};
-ghost use Rattle.stm_journaled_run.specs.Committing.{MayCommit, MayBeginAnew, streamed_text, HasNotWritten, CommitLeaves, BeginningLeaves, BeginningLeavesEither, asked_step, no_checkpoint_text, HasTriedCheckpoint, HasTakenLine, has_begun, HasNotTaken, TakingLeaves};
+ghost use Rattle.stm_journaled_run.specs.Committing.{MayCommit, MayBeginAnew, streamed_text, HasNotWritten, CommitLeaves, BeginningLeaves, BeginningLeavesEither, no_checkpoint_text, HasTriedCheckpoint, HasTakenLine, has_begun, HasNotTaken, TakingLeaves};
 ghost use Rattle.stm_journaled_run.specs.GoingOn.{AnswersLine, FailsAfterLines, FailsAtLine, IsBetweenLines, LineLeaves, LinesLeave, StaysAfterLines, run_at};
 
 use crate::beginning::begin_or_report;
@@ -294,7 +293,7 @@ impl DurableSession {
     ) -> Result<Tried, DurableFault>
         requires open { is_open self.old.console ≡ true }
         requires may { MayBeginAnew (KeepsConsole D.disk file.old) (with_checkpoint self.old.console) }
-        requires taken { checkpoint ≡ checkpoint_now (present_desk self.old.console).desk }
+        requires taken { checkpoint ≡ present_checkpoint self.old.console }
         requires start { MayStart (table_of self.old.console) (Some checkpoint) }
         requires room { are_tickets_full (present_desk self.old.console) ≡ false }
         ensures tried { IfOk result (HasTriedCheckpoint D.disk file.old file.new self.old.console self.new.console
@@ -331,7 +330,7 @@ impl DurableSession {
         ensures tries { self.new.tries_from ≡ self.old.tries_from }
         ensures sync { file.new.journal.sync ≡ file.old.journal.sync }
         ensures cause { IfErr result (RunsUnlessDisk D.disk) }
-        ensures fault { IfErr result (HasNotTaken D.disk file.old file.new (asked_step self.old.console).0) }
+        ensures fault { IfErr result (HasNotTaken D.disk file.old file.new (asked_checkpoint_step self.old.console).0) }
         ensures any_moment { BeginningLeavesEither D.disk file.old file.new self.old.console }
     {
         match self.console.next_checkpoint() {
@@ -350,7 +349,7 @@ impl DurableSession {
         requires open { is_open self.old.console ≡ true }
         requires may { MayBeginAnew (KeepsConsole D.disk file.old) (with_checkpoint self.old.console) }
         requires because { 0 < self.old.tries_from → RefusalCause D.disk }
-        ensures taken { IfOk result (HasTakenLine D.disk file.old file.new (asked_step self.old.console)
+        ensures taken { IfOk result (HasTakenLine D.disk file.old file.new (asked_checkpoint_step self.old.console)
             (self.old.console, no_checkpoint_text) self.new.console (string_bytes self.old.held) (string_bytes self.new.held)
             self.old.recorded self.new.recorded) }
         ensures room { IfOk result (λ k. k ≡ Taken.Unmade → are_tickets_full (present_desk self.old.console) ≡ false) }
@@ -358,7 +357,7 @@ impl DurableSession {
         ensures because { 0 < self.new.tries_from → RefusalCause D.disk }
         ensures sync { file.new.journal.sync ≡ file.old.journal.sync }
         ensures cause { IfErr result (RunsUnlessDisk D.disk) }
-        ensures fault { IfErr result (HasNotTaken D.disk file.old file.new (asked_step self.old.console).0) }
+        ensures fault { IfErr result (HasNotTaken D.disk file.old file.new (asked_checkpoint_step self.old.console).0) }
         ensures any_moment { BeginningLeavesEither D.disk file.old file.new self.old.console }
     {
         match self.try_checkpoint(alloc, file) {
@@ -392,14 +391,14 @@ impl DurableSession {
         requires open { is_open self.old.console ≡ true }
         requires may { MayBeginAnew (KeepsConsole D.disk file.old) (with_checkpoint self.old.console) }
         requires because { 0 < self.old.tries_from → RefusalCause D.disk }
-        ensures taken { IfOk result (HasTakenLine D.disk file.old file.new ((asked_step self.old.console).0, [])
+        ensures taken { IfOk result (HasTakenLine D.disk file.old file.new ((asked_checkpoint_step self.old.console).0, [])
             (self.old.console, []) self.new.console (string_bytes self.old.held) (string_bytes self.new.held)
             self.old.recorded self.new.recorded) }
         ensures same { IfOk result (λ k. has_begun k ≡ false → self.new.console ≡ self.old.console) }
         ensures because { 0 < self.new.tries_from → RefusalCause D.disk }
         ensures sync { file.new.journal.sync ≡ file.old.journal.sync }
         ensures cause { IfErr result (RunsUnlessDisk D.disk) }
-        ensures fault { IfErr result (HasNotTaken D.disk file.old file.new (asked_step self.old.console).0) }
+        ensures fault { IfErr result (HasNotTaken D.disk file.old file.new (asked_checkpoint_step self.old.console).0) }
         ensures any_moment { BeginningLeavesEither D.disk file.old file.new self.old.console }
     {
         let count = self.console.event_count();

@@ -4,12 +4,12 @@ use Rattle.stm_run.specs.declared.command.Command.{Command}
 use Rattle.stm_run.specs.declared.command.Command.TheVariants.{Tvar, Try, Looks, Show, Reads, Store, History, Ready, Why, Events, Checkpoint, Block, Board}
 use Rattle.stm_run.specs.declared.console.Console.{Console}
 use Rattle.stm_run.specs.declared.console.Console.TheVariants.{Declaring, Open}
-use Rattle.stm_run.specs.Console.{on_console, answer_to, state_after, step}
+use Rattle.stm_run.specs.Console.{answer_to, state_after, step}
 use Rattle.stm_run.specs.ConsoleState.{present_desk, is_open, events_of}
-use Rattle.stm_run.specs.LineCheckpoints.{line_checkpoints}
+use Rattle.stm_run.specs.LineCheckpoints.{asked_checkpoint_step, line_checkpoints}
 use Rattle.stm_run.specs.declared.reply.Reply.{Reply}
 use Rattle.stm_run.specs.declared.reply.Reply.TheVariants as reply
-use Rattle.stm_commands.specs.Checkpointing.{are_tickets_full, bare_checkpoint_step}
+use Rattle.stm_commands.specs.Checkpointing.{are_tickets_full}
 use Rattle.stm_commands.specs.OpenDesk.{Steps}
 use Rattle.stm_commands.specs.Questions.{later_events_text}
 use Rattle.stm_commands.specs.Contents.{events_text}
@@ -65,7 +65,7 @@ abbrev pub IsAfterReply : Reply → Console → Console × List ℕ → Type 0
 IsAfterReply reply.Text c s = c ≡ s.0
 IsAfterReply reply.History c s = c ≡ s.0
 IsAfterReply (reply.Events n) c s = c ≡ s.0
-IsAfterReply reply.Checkpoint c s = (is_open c ≡ true) × (s ≡ on_console (bare_checkpoint_step (present_desk c)))
+IsAfterReply reply.Checkpoint c s = (is_open c ≡ true) × (s ≡ asked_checkpoint_step c)
 
 -- this is the console, and the reply is what the step writes
 abbrev pub IsStep : Reply → List ℕ → List ℕ → Console → Console × List ℕ → Type 0
@@ -87,7 +87,7 @@ pub record IsToWrite (answer : List ℕ) (earlier : Console) (line : List ℕ) (
 pub record IsToCheckpoint (earlier : Console) (line : List ℕ) (later : Console) (old new : List ℕ) : Type 0 where
   -- the desk is open, and otherwise as before
   pub opened : later ≡ Open (present_desk earlier)
-  pub step_is : step earlier line ≡ on_console (bare_checkpoint_step (present_desk earlier))
+  pub step_is : step earlier line ≡ asked_checkpoint_step earlier
   -- whether the line makes a checkpoint
   pub made : line_checkpoints earlier line ≡ not (are_tickets_full (present_desk earlier))
   -- nothing was appended
@@ -96,8 +96,11 @@ pub record IsToCheckpoint (earlier : Console) (line : List ℕ) (later : Console
 -- What came of a line, by the reply: the answer was appended to the text, or this is still to be done for it. The console is the
 -- earlier one before the line, and the later one after it; the text is the old one before it, and the new one after it.
 abbrev pub Replies : Reply → Console → List ℕ → Console → List ℕ → List ℕ → Type 0
+-- the line has done its step and its answer was appended; it makes no checkpoint
 Replies reply.Text earlier line later old new = Steps later old new (step earlier line) × (line_checkpoints earlier line ≡ false)
+-- the answer is the history
 Replies reply.History earlier line later old new = IsToWrite (history_of later) earlier line later old new
 -- the answer is the events from the n-th on, and how many there are
 Replies (reply.Events n) earlier line later old new = IsToWrite (later_events_of later n) earlier line later old new
+-- the line asks for a checkpoint
 Replies reply.Checkpoint earlier line later old new = IsToCheckpoint earlier line later old new

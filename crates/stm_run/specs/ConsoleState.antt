@@ -4,6 +4,7 @@ use Rattle.stm_store.specs.Tables.{Declared}
 use Rattle.stm_events.specs.declared.event.Event.{Event}
 use Rattle.stm_machine.specs.Checkpoints.{CheckpointView}
 use Rattle.stm_history_text.specs.Starts.{Start, written_start}
+use Rattle.stm_desk.specs.Checkpointed.{checkpoint_now}
 use Rattle.stm_run.specs.declared.console.Console.{Console}
 use Rattle.stm_run.specs.declared.console.Console.TheVariants.{Declaring, Open}
 use Rattle.stm_commands.specs.Checkpointing.{begun_anew}
@@ -34,6 +35,10 @@ events_of s = (present_desk s).desk.history
 -- where the history begins, as it is written
 abbrev pub start_of_console : Console → Start
 start_of_console s = written_start (table_of s) (checkpoint_of_console s) (events_of s)
+
+-- the checkpoint of the present state of its desk
+abbrev pub present_checkpoint : Console → CheckpointView
+present_checkpoint s = checkpoint_now (present_desk s).desk
 
 -- the console with a checkpoint of its desk: the history is empty, and begins from the present state
 abbrev pub with_checkpoint : Console → Console

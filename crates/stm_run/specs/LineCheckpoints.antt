@@ -1,7 +1,7 @@
 -- Which lines make a checkpoint, the checkpoints that a run makes by itself after a line, and those that can't be made.
 use Rattle.std.specs.Prelude.{◌≡◌, ℕ, Bool, true, false, not, nat_lt, if◌then◌else◌, List, [], ◌∷◌, ◌++◌, length, Option, Some, None, codes}
 use Rattle.stm_lines.specs.LineClass.{LineClass, TooLong, Silent, NotAscii, Words, line_class}
-use Rattle.stm_commands.specs.Checkpointing.{are_tickets_full, makes_checkpoint, checkpoint_if}
+use Rattle.stm_commands.specs.Checkpointing.{are_tickets_full, bare_checkpoint_step, makes_checkpoint, checkpoint_if}
 use Rattle.stm_commands.specs.OpenDesk.{OpenDesk}
 use Rattle.stm_commands.specs.Refusals.{refused}
 use Rattle.stm_run.specs.declared.command.Command.{Command}
@@ -10,7 +10,7 @@ use Rattle.stm_run.specs.declared.console.Console.{Console}
 use Rattle.stm_run.specs.declared.console.Console.TheVariants.{Declaring, Open}
 use Rattle.stm_run.specs.declared.reply.Reply.{Reply}
 use Rattle.stm_run.specs.declared.reply.Reply.TheVariants as reply
-use Rattle.stm_run.specs.Console.{command_named, step, answer_to, state_after}
+use Rattle.stm_run.specs.Console.{command_named, on_console, step, answer_to, state_after}
 use Rattle.stm_run.specs.ConsoleState.{present_desk, events_of}
 
 -- ---- lines
@@ -55,6 +55,10 @@ is_streamed reply.Text = false
 is_streamed reply.History = true
 is_streamed (reply.Events n) = true
 is_streamed reply.Checkpoint = false
+
+-- the step of a checkpoint that the open desk was asked for: it is made, or refused if tickets could run out after it
+abbrev pub asked_checkpoint_step : Console → Console × List ℕ
+asked_checkpoint_step s = on_console (bare_checkpoint_step (present_desk s))
 
 -- ---- checkpoints without a command
 -- a checkpoint is made if the desk is open, its history has this many events, and tickets can't run out

@@ -8,10 +8,9 @@ ghost use Rattle.stm_commands.specs.Printing.{TakesStep};
 ghost use Rattle.stm_commands.specs.Questions.{events_answer};
 ghost use Rattle.stm_run.specs.Abstraction.{IsReply, IsStep, Replies, history_of, is_change, is_question, later_events_of};
 ghost use Rattle.stm_run.specs.Console.{initial_console, command_named, desk_step, on_console, word_step};
-ghost use Rattle.stm_desk.specs.Checkpointed.{checkpoint_now};
-ghost use Rattle.stm_commands.specs.Checkpointing.{MayStartFrom, bare_checkpoint_step, checkpoint_step, makes_checkpoint, next_checkpoint_of};
-ghost use Rattle.stm_run.specs.ConsoleState.{present_desk, is_open, table_of, events_of, with_checkpoint};
-ghost use Rattle.stm_run.specs.LineCheckpoints.{asks_checkpoint, reply_checkpoints, is_streamed, command_checkpoints, word_checkpoints};
+ghost use Rattle.stm_commands.specs.Checkpointing.{MayStartFrom, checkpoint_step, makes_checkpoint, next_checkpoint_of};
+ghost use Rattle.stm_run.specs.ConsoleState.{present_checkpoint, present_desk, is_open, table_of, events_of, with_checkpoint};
+ghost use Rattle.stm_run.specs.LineCheckpoints.{asked_checkpoint_step, asks_checkpoint, reply_checkpoints, is_streamed, command_checkpoints, word_checkpoints};
 ghost use Rattle.stm_run.specs.Declaring.{tvar_line, tvar_step};
 ghost use Rattle.stm_run.specs.declared.console.Console.TheVariants.{Open};
 
@@ -331,7 +330,7 @@ impl Console {
         }
     }
 
-    /// Appends the answer to a line as `answer` does, but starts no thread.
+    /// Appends the answer to a line as `answer` does, but starts no thread. If memory runs out, the line may be done in part.
     pub fn answer_here(
         &mut self,
         alloc: Global,
@@ -352,7 +351,8 @@ impl Console {
         }
     }
 
-    /// Appends the answer to a line, or says that it is the history, or that a checkpoint is to be made (`answer_checkpoint`).
+    /// Appends the answer to a line; or returns that it is the history or its later events, which are to be written, or that a checkpoint
+    /// is to be made (`answer_checkpoint`). If memory runs out, the line may be done in part, and no clause says how far.
     pub fn answer<T: Threads + Sync>(
         &mut self,
         rt: &T,
@@ -418,7 +418,7 @@ impl Console {
     /// Lets the history of the open desk begin from the checkpoint of its present state, and returns how many events it had.
     pub fn begin_from(&mut self, checkpoint: Checkpoint) -> u32
         requires open { is_open self.old ≡ true }
-        requires taken { checkpoint ≡ checkpoint_now (present_desk self.old).desk }
+        requires taken { checkpoint ≡ present_checkpoint self.old }
         ensures count { result ≡ length (events_of self.old) }
         ensures begun { self.new ≡ with_checkpoint self.old }
     {
@@ -431,7 +431,7 @@ impl Console {
     /// Makes the checkpoint that the open desk was asked for, unless tickets could run out after it, and appends the answer.
     pub fn answer_checkpoint(&mut self, out: &mut String) -> Result<(), NoMemory>
         requires { is_open self.old ≡ true }
-        ensures { TakesStep result self.new out.old out.new (on_console (bare_checkpoint_step (present_desk self.old))) }
+        ensures { TakesStep result self.new out.old out.new (asked_checkpoint_step self.old) }
     {
         match self {
             Console::Declaring { .. } => unreachable!(),

@@ -3,8 +3,7 @@ use Rattle.stm_run.specs.declared.reply.Reply.TheVariants.{Text, Checkpoint}
 use Rattle.stm_run.specs.ConsoleState.{events_of, table_of}
 use Rattle.stm_run.specs.Fitting.{VariablesFit}
 use Rattle.stm_run.specs.Growing.{Grows}
-use Rattle.stm_run.specs.LineCheckpoints.{auto_step, made_step}
-use Rattle.stm_journaled_run.specs.Committing.{asked_step}
+use Rattle.stm_run.specs.LineCheckpoints.{asked_checkpoint_step, auto_step, made_step}
 use Rattle.stm_journaled_run.proofs.Committing.{anew_after}
 use Rattle.stm_journaled_run.proofs.LineOutcomes.{asked_taken, due_taken, streamed_taken, unless_begun, unmade_fault}
 use Rattle.stm_journaled_run.proofs.Taking.{taking_leaves, taking_still, asked_state, due, undue, open_with, untouched}
@@ -59,7 +58,7 @@ returns-then-count-every-clause-fault g c =
     let st = rw c.in-Ok-Text.field-0-is at c.in-Ok-Text.ensures.step in
     let more : length (events_of s) < length (events_of t) = omega (arith, c.if-before-count.true, c.event_count-before.ensures, c.event_count-count.ensures) in
     let reach : c.args.every ≤ length (events_of t) = omega (arith, c.if-count-every.true, c.event_count-count.ensures) in
-    unmade_fault g.D.Device.disk c.args.file.now c.checkpoint_due.new.file c.checkpoint_due.result (asked_step t).0 (made_step c.args.every s c.args.line.now).0
+    unmade_fault g.D.Device.disk c.args.file.now c.checkpoint_due.new.file c.checkpoint_due.result (asked_checkpoint_step t).0 (made_step c.args.every s c.args.line.now).0
     (due c.args.every s t (open_with s t more) more reach ∙ ap (auto_step c.args.every s) st.0) c.checkpoint_due.ensures.fault
 
 pub returns-then-count-every-clause-any_moment : goal.returns-then-count-every-clause-any_moment
@@ -145,7 +144,7 @@ pub returns-in-Ok-Checkpoint-clause-fault : goal.returns-in-Ok-Checkpoint-clause
 returns-in-Ok-Checkpoint-clause-fault g c =
     let st = rw c.in-Ok-Checkpoint.field-0-is at c.in-Ok-Checkpoint.ensures.step in
     let opened = (rw c.in-Ok-Checkpoint.field-0-is at c.in-Ok-Checkpoint.ensures.asked) refl in
-    unmade_fault g.D.Device.disk c.args.file.now c.checkpoint_asked.new.file c.checkpoint_asked.result (asked_step c.hold_answer.new.self.console).0 (made_step c.args.every c.args.self.now.console c.args.line.now).0
+    unmade_fault g.D.Device.disk c.args.file.now c.checkpoint_asked.new.file c.checkpoint_asked.result (asked_checkpoint_step c.hold_answer.new.self.console).0 (made_step c.args.every c.args.self.now.console c.args.line.now).0
     (asked_state c.args.every c.args.self.now.console c.hold_answer.new.self.console c.args.line.now st.0.1 opened) c.checkpoint_asked.ensures.fault
 
 pub returns-in-Ok-Checkpoint-clause-any_moment : goal.returns-in-Ok-Checkpoint-clause-any_moment
