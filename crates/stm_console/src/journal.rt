@@ -1,7 +1,7 @@
 //! A run that keeps its history in a file.
 
-ghost use Rattle.std.specs.Prelude.{◌≡◌, ◌≤◌, ℕ, List, Option, None, IfSome, length};
-ghost use Rattle.stm_journaled_run.specs.DurableRun.{durable_status};
+ghost use Rattle.std.specs.Prelude.{◌≡◌, ℕ, List, Option, None};
+ghost use Rattle.stm_journaled_run.specs.DurableRun.{LoadsAtMost, durable_status};
 ghost use Rattle.stm_journal.specs.Disk.{IsSettled};
 ghost use Rattle.stm_console.specs.Journal.{HasBytes, load_status, open_status, unopened_status, journal_status};
 ghost use Rattle.stm_console.specs.Program.{RunsOn, streams};
@@ -140,7 +140,7 @@ fn report_dropped<E: Write>(name: &str, dropped: usize, errors: &mut E) {
 /// How many events a history has, if it has no room for another one. It is no obstacle if checkpoints are made at as many events:
 /// then the command `checkpoint` makes room.
 fn full_count(loaded: &Option<Loaded>, options: Options) -> Option<usize>
-    ensures { result ≡ None → IfSome loaded.now (λ h. length h.events.items ≤ options.max_events) }
+    ensures { result ≡ None → LoadsAtMost options.max_events loaded.now }
 {
     match loaded {
         Some(loaded) => {

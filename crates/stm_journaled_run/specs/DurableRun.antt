@@ -1,5 +1,5 @@
 -- A run whose history is kept in a file.
-use Rattle.std.specs.Prelude.{◌≡◌, ◌≢◌, ◌⊎◌, ⊤, ℕ, Bool, true, false, IsTrue, List, [], ◌++◌, Option, Some, None, Result, Ok, Err, is_some}
+use Rattle.std.specs.Prelude.{◌≡◌, ◌≢◌, ◌≤◌, ◌⊎◌, ⊤, ℕ, Bool, true, false, IsTrue, IfSome, List, [], ◌++◌, length, Option, Some, None, Result, Ok, Err, is_some}
 use Rattle.stm_terms.specs.Texts.{IsPrefixOf}
 use Rattle.stm_events.specs.declared.event.Event.{Event}
 use Rattle.stm_events.specs.SlowDesk.{state_from}
@@ -39,6 +39,10 @@ resumed_console limit (Some h) =
       history = h.events.items;
       pending = queue_for [] (state_from (start_of h.table h.checkpoint) h.events.items).waiters;
     }))
+
+-- if a history was loaded, it has at most this many events
+abbrev pub LoadsAtMost : ℕ → Option Loaded → Type 0
+LoadsAtMost limit loaded = IfSome loaded (λ h. length h.events.items ≤ limit)
 
 -- where the history of the console begins, written in this format
 abbrev pub start_in : ℕ → Console → Start
@@ -134,6 +138,7 @@ pub record HasRunCause {D : Type 0} (disk : Disk D) (e : DurableFault) : Type 0 
   pub no_space : e ≡ Journal NoSpace → MayFail disk
   pub torn_too_long : e ≡ Journal TornTooLong → ⊥
 
+-- so it does if the disk is honest
 abbrev pub RunsUnlessDisk : {D : Type 0} → Disk D → DurableFault → Type 0
 RunsUnlessDisk disk e = IsTrue disk.is_honest → HasRunCause disk e
 

@@ -3,7 +3,7 @@
 ghost use Rattle.std.specs.Prelude.{◌≡◌, ◌≤◌, length, IfOk, IfSome};
 ghost use Rattle.stm_terms.specs.Limits.{max_events};
 ghost use Rattle.stm_history.specs.Loading.{IsResumable};
-ghost use Rattle.stm_journaled_run.specs.DurableRun.{resumed_console};
+ghost use Rattle.stm_journaled_run.specs.DurableRun.{LoadsAtMost, resumed_console};
 
 use std::alloc::Global;
 use stm_desk::Desk;
@@ -41,7 +41,7 @@ pub(crate) fn resumed_console(
     limit: u32,
 ) -> Result<Console, NoMemory>
     requires resumable { IfSome loaded IsResumable }
-    requires fits { IfSome loaded (λ h. length h.events.items ≤ limit) }
+    requires fits { LoadsAtMost limit loaded }
     requires few { limit ≤ max_events }
     ensures { IfOk result (λ c. c ≡ resumed_console limit loaded) }
 {

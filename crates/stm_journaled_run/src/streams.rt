@@ -1,13 +1,13 @@
 //! From the bytes of a reader to the bytes of a writer, with the events in a file.
 
-ghost use Rattle.std.specs.Prelude.{◌≡◌, ◌≢◌, ◌+◌, ◌<◌, ◌≤◌, [], true, ℕ, Ok, length, string_bytes, OnOk, IfOk, IfErr, IfSome, IsErrOf};
+ghost use Rattle.std.specs.Prelude.{◌≡◌, ◌≢◌, ◌+◌, ◌<◌, [], true, ℕ, Ok, length, string_bytes, OnOk, IfOk, IfErr, IfSome, IsErrOf};
 ghost use Rattle.stm_history_file.specs.Durable.{CanGoOnFrom};
 ghost use Rattle.stm_history.specs.Loading.{IsResumable};
 ghost use Rattle.stm_lines.specs.TakenLines.{bytes_to_come};
 ghost use Rattle.stm_lines.specs.Unread.{unread};
 ghost use Rattle.stm_options.specs.Options.{AreRunOptions};
 ghost use Rattle.stm_run.specs.ConsoleState.{events_of};
-ghost use Rattle.stm_journaled_run.specs.DurableRun.{RunsUnlessDisk, RefusalCause, resumed_console};
+ghost use Rattle.stm_journaled_run.specs.DurableRun.{LoadsAtMost, RunsUnlessDisk, RefusalCause, resumed_console};
 ghost use Rattle.stm_journaled_run.specs.WholeRun.{EndsRun, run_view};
 ghost use Rattle.stm_journaled_run.specs.Committing.{FailsOver, WholeLinesAnswered};
 ghost use Rattle.stm_journaled_run.specs.GoingOn.{AnswersNext, FailsAfterLines, FailsUnderWay, FinishesOver, InputLeaves, IsBetweenLines, IsFresh, IsUnderWay, LinesLeave, NextLeaves, StaysAfterLines, WritesWhole, run_at};
@@ -163,7 +163,7 @@ fn resumed_session<T: Threads + RandomSource + Sync>(
 ) -> Result<DurableSession, NoMemory>
     requires options { AreRunOptions options }
     requires resumable { IfSome loaded IsResumable }
-    requires fits { IfSome loaded (λ h. length h.events.items ≤ options.max_events) }
+    requires fits { LoadsAtMost options.max_events loaded }
     ensures console { IfOk result (λ s. s.console ≡ resumed_console options.max_events loaded) }
     ensures held { IfOk result (λ s. string_bytes s.held ≡ []) }
     ensures tries { IfOk result (λ s. s.tries_from ≡ 0) }
@@ -224,6 +224,9 @@ fn run_begun<T: Threads + Sync, R: Read, W: Write, D: Replace + Drop, L: Ledger>
 /// line that adds an event, once the history has `checkpoint_every` events. If the file refuses it, the run goes on in the old file: the
 /// line is refused, or no checkpoint comes by itself, and is tried again when an eighth of `checkpoint_every` events has been added.
 /// `Replace::report` says why.
+///
+/// That each answer waits for its events also while the run goes on is in the contracts of the two functions that write
+/// (`DurableSession::write_held`, `write_streamed`). When answers are committed and how large batches are, no clause says.
 pub fn run_durable<T: Threads + RandomSource + Sync, R: Read, W: Write, D: Replace + Drop>(
     rt: &T,
     alloc: Global,
@@ -234,10 +237,11 @@ pub fn run_durable<T: Threads + RandomSource + Sync, R: Read, W: Write, D: Repla
     options: Options,
 ) -> Result<(), DurableFault>
     requires options { AreRunOptions options }
-    // As `open_history` returns them.
+    // As `open_history` returns them: the file has what was loaded.
     requires opened { CanGoOnFrom D.disk file.old loaded }
-    requires fits { IfSome loaded (λ h. length h.events.items ≤ options.max_events) }
-    // What was written, and what the file has: a crash now, and one at any moment of the run, leaves a file that covers what was written.
+    requires fits { LoadsAtMost options.max_events loaded }
+    // What was written, and what the file has. A crash after the run leaves a file that covers what was written; one at any moment of it
+    // the history from before, and some first events of its lines.
     ensures { EndsRun D.disk file.old file.new (run_view options loaded
         (R.remaining reader.old) (R.remaining reader.new) (W.contents writer.old) (W.contents writer.new)) result }
 {
