@@ -28,12 +28,12 @@ mistake_asked (k ∷ ks) request h = rw h refl
 
 pub words_ask : WordsAskForThis
 words_ask words =
-    let r = request_of words in (
-      λ none. ap (λ (kinds : Kinds). asked_of kinds r) none,
-      λ help. ap (λ (kinds : Kinds). asked_of kinds r) (help_alone (answers_of words) help),
-      λ version. ap (λ (kinds : Kinds). asked_of kinds r) (version_alone (answers_of words) version),
-      λ mistake. mistake_asked (answers_of words) r mistake,
-    )
+    let r = request_of words in record {
+      request = λ none. ap (λ (kinds : Kinds). asked_of kinds r) none;
+      help = λ help. ap (λ (kinds : Kinds). asked_of kinds r) (help_alone (answers_of words) help);
+      version = λ version. ap (λ (kinds : Kinds). asked_of kinds r) (version_alone (answers_of words) version);
+      mistake = λ mistake. mistake_asked (answers_of words) r mistake;
+    }
 
 -- ---- the numbers
 

@@ -34,5 +34,5 @@ BeginsFindingText bytes front = (front ≡ []) ⊎ ((f : Finding) × IsFinding b
 abbrev pub WritesFinding : Option (List ℕ) → Option (List ℕ) → Option (List ℕ) → Result Finding RunFault → Type 0
 -- what it found of the bytes
 WritesFinding input old new (Ok f) = IfSome input (λ bytes. IsFinding bytes f) × Appends old new (finding_text f)
--- nothing, or a front of that; nothing, unless it is the writer that failed
+-- nothing, or a front of what is printed of the bytes; and if the writer isn't what failed, nothing
 WritesFinding input old new (Err e) = IfSome input (λ bytes. WritesSome (BeginsFindingText bytes) old new) × (e ≢ Write → Keeps old new)

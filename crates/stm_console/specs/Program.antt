@@ -66,9 +66,11 @@ abbrev pub streams : Option (List ℕ) → Option (List ℕ) → Option (List �
 streams input rest before after =
     record { input = input; rest = rest; before = before; after = after; files = λ name. None }
 
--- the streams with files
-abbrev pub with_files : (List ℕ → Option (List ℕ)) → Streams → Streams
-with_files files s = record s { files = files }
+-- the streams and the files of the whole program
+abbrev pub program_streams :
+    (List ℕ → Option (List ℕ)) → Option (List ℕ) → Option (List ℕ) → Option (List ℕ) → Option (List ℕ) → Streams
+program_streams files input rest before after =
+    record { input = input; rest = rest; before = before; after = after; files = files }
 
 abbrev pub ReadsNothing : Streams → Type 0
 ReadsNothing s = Keeps s.input s.rest
@@ -123,7 +125,7 @@ RunsOn options contents s status =
 
 -- asked for this, the program reads and writes so, and ends with the exit status
 abbrev pub ProgramDoes : Asked → Streams → ℕ → Type 0
--- help is printed, unless the writer fails or memory runs out
+-- of help it is only said that nothing is read, and not which text is printed; it fails if the writer does or memory runs out
 ProgramDoes Help s status = ReadsNothing s × ((status ≡ DONE) ⊎ IsFailure status)
 -- the version's line is printed, or a part of it
 ProgramDoes Version s status = ReadsNothing s
@@ -131,7 +133,7 @@ ProgramDoes Version s status = ReadsNothing s
     ⊎ (IsFailure status × WritesPartOf s version_line))
 -- wrong words are refused
 ProgramDoes Mistake s status = ReadsNothing s × WritesNothing s × ((status ≡ REFUSED) ⊎ (status ≡ NO_MEMORY))
--- one of these three, and if it is a refusal nothing is written
+-- the words are refused, and nothing is written; or help is printed, of which no more is said than above
 ProgramDoes Several s status = ReadsNothing s
     × (((status ≡ REFUSED) × WritesNothing s)
     ⊎ ((status ≡ DONE) ⊎ IsFailure status))
@@ -141,19 +143,20 @@ ProgramDoes (Do (Run options)) s status =
     ⊎ Fails s status (λ input. WritesPartOf s (console_text options.max_events input))
 -- a run on a file goes on from the history that the file has
 ProgramDoes (Do (RunOn options sync file)) s status = RunsOn options (s.files file) s status
--- a storm writes a text of its script; a failed one if the history that its clients left isn't found legal; and nothing of an invalid
--- script, of which it fails
+-- a storm writes a text of its script; with status 3 that of a failed storm, if the history that its clients left isn't found legal. If it
+-- fails it may write anything, but of an invalid script nothing
 ProgramDoes (Do (Storm options)) s status =
     EndsBy DONE s status (λ input. WritesA s (IsStormText input))
     ⊎ (EndsBy NOT_RIGHT s status (λ input. WritesA s (IsFailedStormText input))
     ⊎ Fails s status (λ input. IsInvalidStorm input → WritesNothing s))
 -- an exploration ends with success only if nothing is wrong with any state that its clients can reach, and writes so; with status 3 it
--- writes which fault it found, or that there are more states than may be kept; of an invalid script it fails, and writes nothing
+-- writes which fault it found, or that there are more states than may be kept. If it fails it may write anything, but of an invalid script
+-- nothing
 ProgramDoes (Do (Explore options)) s status =
     EndsBy DONE s status (λ input. WritesRight options.history options input s.before s.after)
     ⊎ (EndsBy NOT_RIGHT s status (λ input. WritesNotRight options.history options input s.before s.after)
     ⊎ Fails s status (λ input. IsInvalidExploration input → WritesNothing s))
--- a check writes what it finds of the bytes, which the status says too; if it fails, nothing or a part of that
+-- a check writes what it finds of the bytes, which the status says too; or it fails, and writes nothing or a front of that
 ProgramDoes (Do Check) s status =
     ((f : Finding) × (status ≡ finding_status f) × IfSome s.input (λ bytes. IsFinding bytes f) × Writes s (finding_text f))
     ⊎ Fails s status (λ bytes. WritesA s (BeginsFindingText bytes))

@@ -23,13 +23,18 @@ use Rattle.stm_console.specs.declared.status.TheConstants.{DONE, NOT_RIGHT, REFU
 
 -- ---- what words ask for
 
--- words of which clap has nothing to print ask for their request; the others for what clap's answers say
+-- What these words ask for, by what clap has to print of them.
+pub record AskByAnswers (words : List (List ℕ)) : Type 0 where
+  -- if that is nothing, for their request
+  pub request : answers_of words ≡ [] → asked_by words ≡ Do (request_of words)
+  -- if it is help, the version, or that they are wrong, for that
+  pub help : IsTrue (asks_for_help words) → asked_by words ≡ Help
+  pub version : IsTrue (asks_for_version words) → asked_by words ≡ Version
+  pub mistake : IsTrue (has_mistake words) → asked_by words ≡ Mistake
+
+-- so it is whatever the words are; of words of which clap may print several things this says nothing
 abbrev pub WordsAskForThis : Type 0
-WordsAskForThis = (words : List (List ℕ))
-    → (answers_of words ≡ [] → asked_by words ≡ Do (request_of words))
-    × (IsTrue (asks_for_help words) → asked_by words ≡ Help)
-    × (IsTrue (asks_for_version words) → asked_by words ≡ Version)
-    × (IsTrue (has_mistake words) → asked_by words ≡ Mistake)
+WordsAskForThis = (words : List (List ℕ)) → AskByAnswers words
 
 -- ---- the statuses
 

@@ -56,5 +56,5 @@ BeginsAnswerWhy bytes front = (front ≡ []) ⊎ ((f : Finding) × (text : List 
 abbrev pub WritesWhy : Option (List ℕ) → Option (List ℕ) → Option (List ℕ) → Result Finding RunFault → Type 0
 -- what it found of the bytes, and why
 WritesWhy input old new (Ok f) = IfSome input (λ bytes. WritesSome (IsAnswerWhy bytes f) old new)
--- nothing, or a front of that; nothing, unless it is the writer that failed
+-- nothing, or a front of what is printed of the bytes; and if the writer isn't what failed, nothing
 WritesWhy input old new (Err e) = IfSome input (λ bytes. WritesSome (BeginsAnswerWhy bytes) old new) × (e ≢ Write → Keeps old new)

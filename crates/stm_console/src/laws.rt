@@ -8,7 +8,8 @@ pub use stm_command_line::laws::{
     words_of_a_storm_are_those_of_a_run,
 };
 
-/// What the program is asked for, by what clap prints of its words.
+/// What the program is asked for, by what clap prints of its words: their request if that is nothing, else help, the version, or that they
+/// are wrong. Of words of which it may print several things this law says nothing.
 pub fn words_ask_for_this()
     ensures { WordsAskForThis }
 {}

@@ -4,7 +4,7 @@ ghost use Rattle.std.specs.Prelude.{◌≡◌, ◌⊎◌, IsTrue, OnErr, OnOk, m
 ghost use Rattle.std.specs.Io.KnownBytes.{Appends, Keeps};
 ghost use Rattle.clap.specs.Values.{kind_of};
 ghost use Rattle.stm_console.specs.ExitStatus.{IsFailure, storm_status};
-ghost use Rattle.stm_console.specs.Program.{Do, ProgramDoes, asked_by, streams, with_files};
+ghost use Rattle.stm_console.specs.Program.{Do, ProgramDoes, asked_by, program_streams, streams};
 ghost use Rattle.stm_console.specs.declared.status.TheConstants.{DONE, FAILED, NO_MEMORY, REFUSED};
 ghost use Rattle.stm_explore_script.specs.ExploreStatus.{explore_status};
 ghost use Rattle.stm_lines.specs.RunStatus.{status_of};
@@ -256,8 +256,8 @@ fn perform<T: Threads + Wait + RandomSource + Sync, F: JournalFiles, R: Read, W:
     errors: &mut E,
 ) -> u8
     requires { HasOptionsInRange request }
-    ensures { ProgramDoes (Do request.entry) (with_files (F.contents files.now)
-        (streams (R.remaining reader.old) (R.remaining reader.new) (W.contents writer.old) (W.contents writer.new))) result }
+    ensures { ProgramDoes (Do request.entry) (program_streams (F.contents files.now)
+        (R.remaining reader.old) (R.remaining reader.new) (W.contents writer.old) (W.contents writer.new)) result }
 {
     match request {
         Request::Run(options) => do_run(rt, alloc, options, reader, writer, errors),
@@ -309,8 +309,9 @@ pub fn start<
     writer: &mut W,
     errors: &mut E,
 ) -> u8
-    ensures { ProgramDoes (asked_by (map S.text words.now)) (with_files (F.contents files.now)
-        (streams (R.remaining reader.old) (R.remaining reader.new) (W.contents writer.old) (W.contents writer.new))) result }
+    // What is read and written, and the status that comes back, by what the words ask for.
+    ensures { ProgramDoes (asked_by (map S.text words.now)) (program_streams (F.contents files.now)
+        (R.remaining reader.old) (R.remaining reader.new) (W.contents writer.old) (W.contents writer.new)) result }
 {
     match read_words(alloc, words) {
         Ok(request) => perform(rt, alloc, request, files, reader, writer, errors),
