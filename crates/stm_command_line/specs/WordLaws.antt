@@ -56,7 +56,7 @@ pub record StormIsAsRun (name : List ℕ) (rest : List (List ℕ)) : Type 0 wher
   -- they ask for a storm with some options if and only if after `run` they ask for a run without a journal, with the same options
   pub taken : (options : Options) → IsTaken (run_words name rest) options ↔ IsTakenAsStorm (storm_words name rest) options
 
--- whatever the words are
+-- so it is whatever the words are
 abbrev pub StormsAreAsRuns : Type 0
 StormsAreAsRuns = (name : List ℕ) (rest : List (List ℕ)) → StormIsAsRun name rest
 

@@ -12,6 +12,6 @@ pub record AreRunOptions (o : Options) : Type 0 where
   pub some_event : 1 ≤ o.checkpoint_every
   pub few_between : o.checkpoint_every ≤ max_events
 
--- the options of a run of whose words none says another
+-- the options of a run if its words say nothing of them
 abbrev pub default_options : Options
 default_options = record { workers = 2; levels = 0; max_events = max_events; checkpoint_every = 500000 }

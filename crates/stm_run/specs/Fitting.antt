@@ -48,7 +48,7 @@ pub record IsOfTexts (d : DeskView) : Type 0 where
   -- each waiting block of that checkpoint is what its text checks to
   pub blocks : IfSome d.checkpoint BlocksAreOfText
 
--- whatever lines came before, and however many events the history may have
+-- what the desk has is of texts, whatever lines came before, and however many events the history may have
 abbrev pub EventsAreOfConsole : Type 0
 EventsAreOfConsole =
     (max_events : ℕ) (before : List (List ℕ))
@@ -96,7 +96,7 @@ abbrev pub HaveSmallNumbers : List Event → Type 0
 HaveSmallNumbers [] = ⊤
 HaveSmallNumbers (e ∷ es) = AreNumbersSmall e.what × HaveSmallNumbers es
 
--- whatever lines came before
+-- the numbers of each event since the last checkpoint are small, whatever lines came before
 abbrev pub NumbersAreSmall : Type 0
 NumbersAreSmall =
     (max_events : ℕ) → max_events ≤ limits.max_events → (before : List (List ℕ))
@@ -122,7 +122,7 @@ AreVerdictsInRange (e ∷ es) = IsVerdictInRange e.what × AreVerdictsInRange es
 abbrev pub VariablesFit : List Declared → Type 0
 VariablesFit table = (length table ≤ slow.max_cells) × AreVariables table
 
--- Whatever lines came before, the desk's variables may be declared in this order, and can be in lines.
+-- whatever lines came before, the desk's variables can be in lines, and are no more than a table has
 abbrev pub VariablesFitLines : Type 0
 VariablesFitLines =
     (max_events : ℕ) (before : List (List ℕ))

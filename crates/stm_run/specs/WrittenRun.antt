@@ -20,7 +20,7 @@ WritesWholeLines max_events input left old new =
 pub record FailsRun (max_events : ℕ) (input left old new : Option (List ℕ)) (e : RunFault) : Type 0 where
   -- a front of the text of the input was written
   pub part : IfSome input (λ i. WritesFront old new (console_text max_events i))
-  -- after a read fault it is the text of the lines that were whole before
+  -- after a read fault it is the text of the lines that were whole in what was taken of the input
   pub whole : e ≡ Read → IfSome input (λ i. WritesWholeLines max_events i left old new)
 
 -- what a run has written
@@ -36,9 +36,9 @@ run_fault_of write_fault.Write = Write
 run_fault_of write_fault.NoMemory = NoMemory
 
 -- ---- one line
--- what was written of the answer to a line, and which console comes after it
+-- what was written of the answer to a line, and which console comes after it; after an error nothing is said of the console
 abbrev pub WritesAnswer : Console → List ℕ → Console → Option (List ℕ) → Option (List ℕ) → Result (Unit {0}) RunFault → Type 0
--- the whole answer, and the console is the one after the line
+-- the whole answer was, and the console is the one after the line
 WritesAnswer earlier line later old new (Ok done) = Appends old new (answer_to earlier line) × (later ≡ state_after earlier line)
--- a front of it; no reader is called, so none fails
+-- a front of it was; no reader is called, so none fails
 WritesAnswer earlier line later old new (Err e) = WritesFront old new (answer_to earlier line) × (e ≢ Read)

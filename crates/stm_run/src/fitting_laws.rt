@@ -35,8 +35,9 @@ pub fn waiting_stay_of_text()
     ensures { WaitingStayOfText }
 {}
 
-/// The tickets of the events, the numbers of their first new variables, the tickets that they make stale and the numbers that a first
-/// value refers to have at most 32 bits, whatever lines came before.
+/// The tickets of the events since the last checkpoint, the numbers of their first new variables, the tickets that they make stale and the
+/// number that the first value of a late declaration refers to have at most 32 bits, and its type has at most 8 `TVar`, whatever lines
+/// came before.
 pub fn numbers_are_small()
     ensures { NumbersAreSmall }
 {

@@ -126,7 +126,7 @@ impl Session {
         self.write_reply(alloc, reply, writer)
     }
 
-    /// Answers a line.
+    /// Answers a line. After an error the console may have done a part of the line, and no clause says how far.
     pub fn answer_line<T: Threads + Sync, W: Write>(
         &mut self,
         rt: &T,
@@ -134,7 +134,7 @@ impl Session {
         line: &[u8],
         writer: &mut W,
     ) -> Result<(), RunFault>
-        // By the result: the answer to the line was written, or a part of it.
+        // By the result: the answer was written and the console is the one after the line, or a front of the answer was written.
         ensures { WritesAnswer self.old.console line.now self.new.console
             (W.contents writer.old) (W.contents writer.new) result }
     {
@@ -155,7 +155,7 @@ impl Session {
         line: &[u8],
         writer: &mut W,
     ) -> Result<(), RunFault>
-        // By the result: the answer to the line was written, or a part of it.
+        // By the result: the answer was written and the console is the one after the line, or a front of the answer was written.
         ensures { WritesAnswer self.old.console line.now self.new.console
             (W.contents writer.old) (W.contents writer.new) result }
     {

@@ -123,7 +123,7 @@ pub fn run_counted<T: Threads + RandomSource + Sync, R: Read, W: Write, L: Ledge
     requires { AreRunOptions options }
     // The reader was called 4,294,967,295 times at most.
     ensures few { steps.new ≤ steps.old + 4294967295 }
-    // By the result: the whole text of the input was written, or a part of it.
+    // By the result: the whole text of the input was written, or a front of it.
     ensures written { WritesRun options.max_events (R.remaining reader.old) (R.remaining reader.new)
         (W.contents writer.old) (W.contents writer.new) result }
 {
@@ -151,7 +151,7 @@ fn run_from<T: Threads + RandomSource + Sync, R: Read, W: Write, L: Ledger>(
     requires name { blank.name ≡ L.name }
     requires parts { blank.parts ≡ L.parts }
     requires some { 0 < blank.parts }
-    // By the result: the whole text of the input was written, or a part of it.
+    // By the result: the whole text of the input was written, or a front of it.
     ensures { WritesRun options.max_events (R.remaining reader.old) (R.remaining reader.new)
         (W.contents writer.old) (W.contents writer.new) result }
 {
@@ -163,8 +163,9 @@ fn run_from<T: Threads + RandomSource + Sync, R: Read, W: Write, L: Ledger>(
 ///
 /// What each command answers is said in docs/CONSOLE.md. An interrupted read is tried again. After 4,294,967,295 calls of
 /// the reader a run ends as it does after a read that fails. The writer is flushed before each read and at the end, so it
-/// may keep a buffer. Of a line that is too long no more than its first 65,538 bytes are kept, which no
-/// clause says.
+/// may keep a buffer. Of a line that is too long no more than its first 65,538 bytes are kept.
+///
+/// No clause says when the writer is flushed, how much of a line is kept, or that an error has a cause.
 pub fn run<T: Threads + RandomSource + Sync, R: Read, W: Write>(
     rt: &T,
     alloc: Global,
@@ -173,7 +174,7 @@ pub fn run<T: Threads + RandomSource + Sync, R: Read, W: Write>(
     options: Options,
 ) -> Result<(), RunFault>
     requires { AreRunOptions options }
-    // By the result: the whole text of the input was written, or a part of it.
+    // By the result: the whole text of the input was written, or a front of it.
     ensures { WritesRun options.max_events (R.remaining reader.old) (R.remaining reader.new)
         (W.contents writer.old) (W.contents writer.new) result }
 {
