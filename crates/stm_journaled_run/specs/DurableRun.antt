@@ -124,11 +124,11 @@ IsNoJournalFault (Ok x) = ⊤
 IsNoJournalFault (Err (Run f)) = ⊤
 IsNoJournalFault (Err (Journal e)) = ⊥
 
--- beside the disk, recording fails if a batch or the file is too long
+-- beside the disk, recording may fail since a batch or the file is too long; whether it is isn't said here
 abbrev pub long_or_full : Own
 long_or_full = record { full = ⊤; too_long = ⊤; torn_too_long = ⊥ }
 
--- recording fails only by the disk, if memory runs out, or if a batch or the file is too long
+-- recording fails only by the disk, if memory runs out, or with the error that a batch or the file is too long
 abbrev pub RecordsUnlessDisk : {D T : Type 0} → Disk D → Result T JournalError → Type 0
 RecordsUnlessDisk disk result = FailsOnlyIfAny disk long_or_full result
 
@@ -142,8 +142,8 @@ pub record HasRunCause {D : Type 0} (disk : Disk D) (e : DurableFault) : Type 0 
 abbrev pub RunsUnlessDisk : {D : Type 0} → Disk D → DurableFault → Type 0
 RunsUnlessDisk disk e = IsTrue disk.is_honest → HasRunCause disk e
 
--- Why a checkpoint can't be made: the file refuses it, or has refused one before. On a disk on which no call fails that is only since a
--- line of the checkpoint or the file would be too long. Memory that runs out is no such cause: it ends the run.
+-- Why a checkpoint can't be made: the file refuses it with this error, or has refused one before. On a disk on which no call fails the
+-- error is that a line of the checkpoint or the file would be too long. Memory that runs out is no such cause: it ends the run.
 pub record RefusalCause {D : Type 0} (disk : Disk D) : Type 0 where
   pub error : JournalError
   pub not_memory : error ≢ NoMemory

@@ -226,7 +226,8 @@ fn run_begun<T: Threads + Sync, R: Read, W: Write, D: Replace + Drop, L: Ledger>
 /// `Replace::report` says why.
 ///
 /// That each answer waits for its events also while the run goes on is in the contracts of the two functions that write
-/// (`DurableSession::write_held`, `write_streamed`). When answers are committed and how large batches are, no clause says.
+/// (`DurableSession::write_held`, `write_streamed`). No clause says when answers are committed, how large batches are, or when a checkpoint
+/// that was refused is tried again.
 pub fn run_durable<T: Threads + RandomSource + Sync, R: Read, W: Write, D: Replace + Drop>(
     rt: &T,
     alloc: Global,

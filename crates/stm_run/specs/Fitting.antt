@@ -118,17 +118,17 @@ AreVerdictsInRange [] = ⊤
 AreVerdictsInRange (e ∷ es) = IsVerdictInRange e.what × AreVerdictsInRange es
 
 -- ---- the declared variables
--- they can be in lines, and are no more than a table has
+-- they may be declared in this order, can be in lines, and are no more than a table has
 abbrev pub VariablesFit : List Declared → Type 0
 VariablesFit table = (length table ≤ slow.max_cells) × AreVariables table
 
--- whatever lines came before, the desk's variables can be in lines, and are no more than a table has
+-- so it is of the desk's variables, whatever lines came before
 abbrev pub VariablesFitLines : Type 0
 VariablesFitLines =
     (max_events : ℕ) (before : List (List ℕ))
     → VariablesFit (present_desk (console_reached max_events before)).desk.table
 
--- variables that can be in lines stay so with those that are declared later
+-- and it stays so, whatever lines come
 abbrev pub VariablesStayFit : Type 0
 VariablesStayFit =
     (s : Console) (lines : List (List ℕ)) → VariablesFit (table_of s) → VariablesFit (table_of (state_after_lines s lines))
