@@ -1,11 +1,11 @@
 -- What the exit statuses say follows from what the program does.
-use Rattle.std.proofs.Common.{◌≡◌, ◌∙◌, ℕ, Bool, List, [], ◌∷◌, inl, inr, refl, sym, ap, subst, arith, Option, Some, None, true, false, Ok, Err}
-use Rattle.std.specs.Prelude.{◌⊎◌, IfSome}
+use Rattle.std.proofs.Common.{◌≡◌, ◌≢◌, ◌∙◌, ℕ, Bool, List, [], ◌∷◌, inl, inr, refl, sym, ap, subst, arith, Option, Some, None, true, false, Ok, Err}
+use Rattle.std.specs.Prelude.{◌⊎◌, IfSome, if◌then◌else◌}
 use Rattle.std.proofs.lemmas.List.{append-nil}
 use Rattle.std.proofs.lemmas.Option.{IfSome_then}
 use Rattle.clap.specs.Words.{Kinds}
 use Rattle.stm_terms.specs.Texts.{IsPrefixOf}
-use Rattle.stm_command_line.specs.CommandLine.{answers_of, are_mistakes, request_of}
+use Rattle.stm_command_line.specs.CommandLine.{answers_of, are_mistakes, is_help, is_version, request_of}
 use Rattle.stm_command_line.specs.declared.command_line.Request.{Request}
 use Rattle.stm_command_line.specs.declared.command_line.Request.TheVariants.{Run, RunOn, Storm, Explore, Check, CheckWhy}
 use Rattle.stm_command_line.proofs.WordAnswers.{help_alone, version_alone}
@@ -26,6 +26,18 @@ mistake_asked : (kinds : Kinds) (request : Request) → are_mistakes kinds ≡ t
 mistake_asked [] request h = absurd cc
 mistake_asked (k ∷ ks) request h = rw h refl
 
+several_if : (mistake help version : Bool) → mistake ≡ false → help ≡ false → version ≡ false
+    → (if mistake then Mistake else if help then Help else if version then Version else Several) ≡ Several
+several_if true help version m h v = absurd (cc m)
+several_if false true version m h v = absurd (cc h)
+several_if false false true m h v = absurd (cc v)
+several_if false false false m h v = refl
+
+several_asked : (kinds : Kinds) (request : Request) → kinds ≢ [] → are_mistakes kinds ≡ false → is_help kinds ≡ false → is_version kinds ≡ false
+    → asked_of kinds request ≡ Several
+several_asked [] request some m h v = absurd (some refl)
+several_asked (k ∷ ks) request some m h v = several_if (are_mistakes (k ∷ ks)) (is_help (k ∷ ks)) (is_version (k ∷ ks)) m h v
+
 pub words_ask : WordsAskForThis
 words_ask words =
     let r = request_of words in record {
@@ -33,6 +45,7 @@ words_ask words =
       help = λ help. ap (λ (kinds : Kinds). asked_of kinds r) (help_alone (answers_of words) help);
       version = λ version. ap (λ (kinds : Kinds). asked_of kinds r) (version_alone (answers_of words) version);
       mistake = λ mistake. mistake_asked (answers_of words) r mistake;
+      several = λ some help version mistake. several_asked (answers_of words) r some mistake help version;
     }
 
 -- ---- the numbers

@@ -1,5 +1,5 @@
 -- What each exit status says.
-use Rattle.std.specs.Prelude.{◌≡◌, ◌≢◌, ◌⊎◌, ℕ, List, [], Option, IfSome, IsTrue, ⊤}
+use Rattle.std.specs.Prelude.{◌≡◌, ◌≢◌, ◌⊎◌, ℕ, false, List, [], Option, IfSome, IsTrue, ⊤}
 use Rattle.stm_history.specs.declared.loading.Loaded.{Loaded}
 use Rattle.stm_journal.specs.declared.sync_mode.SyncMode.{SyncMode}
 use Rattle.stm_journal.specs.Text.{recovered}
@@ -18,7 +18,7 @@ use Rattle.stm_command_line.specs.declared.command_line.Request.TheVariants.{Run
 use Rattle.stm_console.specs.Checking.{BeginsFindingText}
 use Rattle.stm_console.specs.ExitStatus.{IsFailure}
 use Rattle.stm_console.specs.Journal.{HasNoHistory}
-use Rattle.stm_console.specs.Program.{Asked, Do, Help, Mistake, Version, asked_by, OverLines, ProgramDoes, ReadsNothing, Streams, Writes, WritesA, WritesNothing, WritesPartOf}
+use Rattle.stm_console.specs.Program.{Asked, Do, Help, Mistake, Several, Version, asked_by, OverLines, ProgramDoes, ReadsNothing, Streams, Writes, WritesA, WritesNothing, WritesPartOf}
 use Rattle.stm_console.specs.declared.status.TheConstants.{DONE, NOT_RIGHT, REFUSED}
 
 -- ---- what words ask for
@@ -31,8 +31,12 @@ pub record AskByAnswers (words : List (List ℕ)) : Type 0 where
   pub help : IsTrue (asks_for_help words) → asked_by words ≡ Help
   pub version : IsTrue (asks_for_version words) → asked_by words ≡ Version
   pub mistake : IsTrue (has_mistake words) → asked_by words ≡ Mistake
+  -- if it may be several things, for one of them
+  pub several :
+      answers_of words ≢ [] → asks_for_help words ≡ false → asks_for_version words ≡ false → has_mistake words ≡ false
+      → asked_by words ≡ Several
 
--- so it is whatever the words are; of words of which clap may print several things this says nothing
+-- so it is whatever the words are
 abbrev pub WordsAskForThis : Type 0
 WordsAskForThis = (words : List (List ℕ)) → AskByAnswers words
 

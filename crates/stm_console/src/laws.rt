@@ -9,7 +9,7 @@ pub use stm_command_line::laws::{
 };
 
 /// What the program is asked for, by what clap prints of its words: their request if that is nothing, else help, the version, or that they
-/// are wrong. Of words of which it may print several things this law says nothing.
+/// are wrong; or, of the word `help` and what follows it, one of several things.
 pub fn words_ask_for_this()
     ensures { WordsAskForThis }
 {}

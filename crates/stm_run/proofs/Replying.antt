@@ -2,15 +2,14 @@
 use Rattle.std.proofs.Common.{◌≡◌, ℕ, List, [], ◌++◌, Bool, true, false, Result, Ok, Err, IfOk, OnOk, refl, sym, ap, ◌∙◌, subst, append-nil}
 use Rattle.std.specs.Result.{result_and}
 use Rattle.stm_lines.specs.LineClass.{LineClass, Silent, Words, line_class}
-use Rattle.stm_commands.specs.Checkpointing.{bare_checkpoint_step}
 use Rattle.stm_run.specs.Abstraction.{IsStep, Replies}
 use Rattle.stm_run.specs.declared.console.Console.{Console}
 use Rattle.stm_run.specs.declared.console.Console.TheVariants.{Open}
 use Rattle.stm_run.specs.declared.reply.Reply.{Reply}
 use Rattle.stm_run.specs.declared.reply.Reply.TheVariants as reply
-use Rattle.stm_run.specs.Console.{class_step, command_named, on_console, step, word_step}
+use Rattle.stm_run.specs.Console.{class_step, command_named, step, word_step}
 use Rattle.stm_run.specs.ConsoleState.{events_of, is_open, present_desk}
-use Rattle.stm_run.specs.LineCheckpoints.{asks_checkpoint, class_checkpoints, is_streamed, line_checkpoints, reply_checkpoints, word_checkpoints}
+use Rattle.stm_run.specs.LineCheckpoints.{asked_checkpoint_step, asks_checkpoint, class_checkpoints, is_streamed, line_checkpoints, reply_checkpoints, word_checkpoints}
 
 -- ---- the judgement of a line says what it does
 pub judged_step : (s : Console) (line : List ℕ) (j : LineClass) → j ≡ line_class line → step s line ≡ class_step s j
@@ -21,17 +20,13 @@ pub judged_checkpoints : (s : Console) (line : List ℕ) (j : LineClass) → j �
 unfolding line_checkpoints
 judged_checkpoints s line j is = sym (ap (class_checkpoints s) is)
 
--- the step of the checkpoint on this console's desk
-abbrev bare_of : Console → Console × List ℕ
-bare_of s = on_console (bare_checkpoint_step (present_desk s))
-
 -- ---- from the reply to the four facts
 pub is_step : (s : Console) (line : List ℕ) (t : Console) (old new : List ℕ) (r : Reply) → Replies r s line t old new → IsStep r old new t (step s line)
 is_step s line t old new reply.Text h = h.0
 is_step s line t old new reply.History h = (h.console, (h.appended, h.answer_is))
 is_step s line t old new (reply.Events n) h = (h.console, (h.appended, h.answer_is))
 is_step s line t old new reply.Checkpoint h =
-    ((subst (λ (c : Console). is_open c ≡ true) (sym h.opened) refl, h.step_is ∙ sym (ap bare_of h.opened)), h.appended)
+    ((subst (λ (c : Console). is_open c ≡ true) (sym h.opened) refl, h.step_is ∙ sym (ap asked_checkpoint_step h.opened)), h.appended)
 
 -- after an empty text, too
 pub is_step_after : (s : Console) (line : List ℕ) (t : Console) (old new : List ℕ) (r : Reply) → old ≡ [] → Replies r s line t old new → (p : Console × List ℕ) × IsStep r [] new t p
@@ -75,7 +70,7 @@ module _ {X : Type 0} (s : Console) (line : List ℕ) (t : Console) (old new : L
   replies (Ok (reply.Events n)) is asked made streamed =
       record { console = is.0; answer_is = is.1.1; events = streamed refl; no_checkpoint = sym made; appended = is.1.0 }
   replies (Ok reply.Checkpoint) is asked made streamed =
-      record { opened = asked refl; step_is = is.0.1 ∙ ap bare_of (asked refl); made = sym made; appended = is.1 }
+      record { opened = asked refl; step_is = is.0.1 ∙ ap asked_checkpoint_step (asked refl); made = sym made; appended = is.1 }
 
   -- a line of a command, whose argument was read as this text
   pub commanded : (word argument text : List ℕ) (q : Result Reply X) → Words word argument ≡ line_class line → text ≡ argument
