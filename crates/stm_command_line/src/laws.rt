@@ -39,7 +39,7 @@ pub fn numbers_in_range_are_taken()
 
 /// `run` with the same option twice, side by side and with no other word, is refused, whatever its two values are. So are words of
 /// which an option is the first, without `run`.
-pub fn options_stand_once_after_run()
+pub fn options_come_once_after_run()
     ensures once { NoOptionTwice }
     ensures after { OptionsNeedRun }
 {}

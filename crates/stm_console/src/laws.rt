@@ -3,7 +3,7 @@
 ghost use Rattle.stm_console.specs.StatusLaws.{WordsAskForThis, StatusesAreFew, RefusedDoNothing, RequestsAreTaken, OnlyJudgesFindWrong, WrongFilesDoNothing, DoneRunsAnswer, DoneFilesAnswer, DoneStormsReport, DoneExplorationsAreRight, DoneVersionsAreWritten, OtherRunsWriteAPart, OtherFilesWriteAPart, OtherChecksWriteAPart, OtherVersionsWriteAPart, InvalidStormsWriteNothing, InvalidExplorationsWriteNothing};
 
 pub use stm_command_line::laws::{
-    numbers_in_range_are_taken, options_stand_once_after_run, versions_are_asked_for,
+    numbers_in_range_are_taken, options_come_once_after_run, versions_are_asked_for,
     words_of_a_check_are_accepted, words_of_a_run_are_accepted,
     words_of_a_storm_are_those_of_a_run,
 };

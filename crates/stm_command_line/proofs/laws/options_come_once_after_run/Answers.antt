@@ -1,5 +1,5 @@
 use Rattle.stm_command_line.proofs.SaidNumbers.{no_option_twice, options_need_run}
-use Rattle.stm_command_line.proofs.laws.options_stand_once_after_run.Goals as goal
+use Rattle.stm_command_line.proofs.laws.options_come_once_after_run.Goals as goal
 
 pub returns-clause-once : goal.returns-clause-once
 returns-clause-once c = no_option_twice
