@@ -1,5 +1,6 @@
 -- What the code's replies are to the definitions.
-use Rattle.std.specs.Prelude.{◌≡◌, ℕ, Bool, true, false, not, List, [], ◌++◌}
+use Rattle.std.specs.Prelude.{◌≡◌, ℕ, Bool, true, false, not, List, [], ◌++◌, IfOk, Result, String, string_bytes}
+use Rattle.std.specs.Global.{Global}
 use Rattle.stm_run.specs.declared.command.Command.{Command}
 use Rattle.stm_run.specs.declared.command.Command.TheVariants.{Tvar, Try, Looks, Show, Reads, Store, History, Ready, Why, Events, Checkpoint, Block, Board}
 use Rattle.stm_run.specs.declared.console.Console.{Console}
@@ -104,3 +105,7 @@ Replies reply.History earlier line later old new = IsToWrite (history_of later) 
 Replies (reply.Events n) earlier line later old new = IsToWrite (later_events_of later n) earlier line later old new
 -- the line asks for a checkpoint
 Replies reply.Checkpoint earlier line later old new = IsToCheckpoint earlier line later old new
+
+-- what came of a line, unless memory ran out: the text is that of the string before the call and after it
+abbrev pub RepliesTo : {E : Type 0} → Result Reply E → Console → List ℕ → Console → String Global → String Global → Type 0
+RepliesTo result earlier line later old new = IfOk result (λ r. Replies r earlier line later (string_bytes old) (string_bytes new))

@@ -6,7 +6,7 @@ ghost use Rattle.stm_commands.specs.Contents.{history_answer};
 ghost use Rattle.stm_commands.specs.OpenDesk.{Steps, without_jobs};
 ghost use Rattle.stm_commands.specs.Printing.{TakesStep};
 ghost use Rattle.stm_commands.specs.Questions.{events_answer};
-ghost use Rattle.stm_run.specs.Abstraction.{IsReply, IsStep, Replies, history_of, is_change, is_question, later_events_of};
+ghost use Rattle.stm_run.specs.Abstraction.{IsReply, IsStep, RepliesTo, history_of, is_change, is_question, later_events_of};
 ghost use Rattle.stm_run.specs.Console.{initial_console, command_named, desk_step, on_console, word_step};
 ghost use Rattle.stm_commands.specs.Checkpointing.{MayStartFrom, checkpoint_step, makes_checkpoint, next_checkpoint_of};
 ghost use Rattle.stm_run.specs.ConsoleState.{present_checkpoint, present_desk, is_open, table_of, events_of, with_checkpoint};
@@ -337,8 +337,8 @@ impl Console {
         line: &[u8],
         out: &mut String,
     ) -> Result<Reply, NoMemory>
-        // By the reply: the answer, or what is still to be done for it.
-        ensures { IfOk result (λ r. Replies r self.old line.now self.new (string_bytes out.old) (string_bytes out.new)) }
+        // By the reply: the answer was appended, or this is still to be done for it.
+        ensures { RepliesTo result self.old line.now self.new out.old out.new }
     {
         match judge(line) {
             Judgement::TooLong => refuse("LineTooLong", out).and(Ok(Reply::Text)),
@@ -361,8 +361,8 @@ impl Console {
         line: &[u8],
         out: &mut String,
     ) -> Result<Reply, NoMemory>
-        // By the reply: the answer, or what is still to be done for it.
-        ensures { IfOk result (λ r. Replies r self.old line.now self.new (string_bytes out.old) (string_bytes out.new)) }
+        // By the reply: the answer was appended, or this is still to be done for it.
+        ensures { RepliesTo result self.old line.now self.new out.old out.new }
     {
         match judge(line) {
             Judgement::TooLong => refuse("LineTooLong", out).and(Ok(Reply::Text)),
