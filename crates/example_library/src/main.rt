@@ -68,7 +68,7 @@ fn tell(rt: &HostRuntime, ticket: u32, what: &str, verdict: &Verdict) -> Result<
 }
 
 /// Evaluates a job on a frozen copy of the store, and delivers the message. A message may come late, and from any
-/// evaluator: where a variable that was read has changed, it is refused.
+/// evaluator: if a variable that was read has changed, it is refused.
 fn work(rt: &HostRuntime, desk: &mut Desk, frozen: &Frozen, job: Job) -> Result<()> {
     let has_all = frozen.covers(job.block.block().uses());
     ensure!(has_all, "the copy lacks a variable of the block");

@@ -9,8 +9,8 @@ use stm_journal::has_standard_descriptor;
 const NULL: &str = "/dev/null";
 
 /// Gives each standard stream that is closed a file that can't do what the stream is for. So no other file of the program gets its
-/// descriptor, and a read or a write of the stream fails, as on a stream that is closed. The files are returned: it lasts as long
-/// as they do.
+/// descriptor, and a read or a write of the stream fails, as on a stream that is closed. The files are returned; the caller keeps them
+/// open for as long as this has to hold.
 pub fn occupy(rt: &HostRuntime) -> io::Result<Vec<File>> {
     let mut files = Vec::new(rt.alloc());
     for _ in 0..3 {
