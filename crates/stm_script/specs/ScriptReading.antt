@@ -1,5 +1,5 @@
 -- The code's script under way, and what its calls return, by the definitions of scripts.
-use Rattle.std.specs.Prelude.{◌≡◌, ◌≢◌, ◌≤◌, ℕ, ◌+◌, nat_lt, List, [], ◌∷◌, ◌++◌, Option, Some, None, Result, Ok, Err, IfSome, length, map, if◌then◌else◌, vec_len, ⊤}
+use Rattle.std.specs.Prelude.{◌≡◌, ◌≢◌, ◌≤◌, ◌⊎◌, ℕ, ◌+◌, nat_lt, List, [], ◌∷◌, ◌++◌, Option, Some, None, Result, Ok, Err, IfSome, length, map, if◌then◌else◌, vec_len, ⊤}
 use Rattle.stm_terms.specs.UnlessNoMemory.{AnswersUnless}
 use Rattle.stm_source.specs.declared.refusal.Refusal.{Refusal}
 use Rattle.stm_source.specs.OutOfMemory.{IsOutOfMemory}
@@ -30,6 +30,10 @@ or_faulty (Err why) = Err (Faulty why)
 abbrev pub or_refused : {Y : Type 0} → Result Y Refusal → Result Y LineFault
 or_refused (Ok y) = Ok y
 or_refused (Err refusal) = Err (Faulty (Refused refusal))
+
+-- what a refusal is to a script: it makes the line faulty, unless it says that memory ran out
+abbrev pub IsLineFaultOf : Refusal → LineFault → Type 0
+IsLineFaultOf refusal fault = (IsOutOfMemory refusal × (fault ≡ NoMemory)) ⊎ (¬ IsOutOfMemory refusal × (fault ≡ Faulty (Refused refusal)))
 
 -- a line, or a part of it, leads to the script under way that the definitions give, or is faulty for the reason that they give, unless memory ran out;
 -- scripts of storms and of explorations are read so

@@ -1,14 +1,13 @@
 //! What a line of a storm's script says.
 
-ghost use Rattle.std.specs.Prelude.{◌≡◌, ◌<◌, ◌⊎◌, length, slice_get};
+ghost use Rattle.std.specs.Prelude.{◌≡◌, ◌<◌, length, slice_get};
 ghost use Rattle.stm_parse.specs.Declarations.{parsed_initial};
 ghost use Rattle.stm_parse.specs.ExpectationFunction.{parsed_expectation};
 ghost use Rattle.stm_lines.specs.NumberArgument.{number_argument};
 ghost use Rattle.stm_source.specs.CompiledBlock.{compiled_block};
 ghost use Rattle.stm_source.specs.DeclaredVariable.{initial as initial_of};
-ghost use Rattle.stm_source.specs.OutOfMemory.{IsOutOfMemory};
 ghost use Rattle.stm_store.specs.Naming.{named_in_table};
-ghost use Rattle.stm_script.specs.ScriptReading.{or_refused, ReadsTo};
+ghost use Rattle.stm_script.specs.ScriptReading.{or_refused, IsLineFaultOf, ReadsTo};
 ghost use Rattle.stm_script.specs.StormScript.{submission_of, expected_at, expected_task};
 
 use crate::script_fault::Reason;
@@ -39,8 +38,7 @@ fn faulty(refusal: Refusal) -> LineFault
 
 /// What a refusal is to a script: a line that would be refused is faulty.
 pub fn fault_of(refusal: Refusal) -> LineFault
-    ensures { (IsOutOfMemory refusal × (result ≡ LineFault.NoMemory))
-        ⊎ (¬ IsOutOfMemory refusal × (result ≡ LineFault.Faulty (Reason.Refused refusal))) }
+    ensures { IsLineFaultOf refusal result }
 {
     match refusal {
         Refusal::Parsing(ParseFault::NoMemory) => LineFault::NoMemory,
