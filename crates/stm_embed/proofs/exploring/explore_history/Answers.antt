@@ -1,4 +1,5 @@
 use Rattle.std.proofs.Common.{◌≡◌, length, vec_len, Some, ◌∙◌, rules}
+use Rattle.stm_explore_script.proofs.Explorations.{faulty_by}
 use Rattle.stm_embed.proofs.DiagnosedExplorations.{faulty_diagnosed, full_diagnosed, incomplete_diagnosed, refused_diagnosed, right_diagnosed}
 use Rattle.stm_embed.proofs.WrittenExplorations.{history_by, history_written, no_history}
 use Rattle.stm_embed.proofs.exploring.explore_history.Goals as goal
@@ -41,4 +42,5 @@ returns-in_ok-length-in-Err-NoRoom c =
     let l : vec_len found ≡ length found.items = search rules in
     let e = c.in_ok-length-in-Err-NoRoom.ensures in
     let w = history_by c.args.options (Some c.args.script.now) (Some c.args.text.now.items) (Some found.items) _ _ c.in-Err-NoRoom.field-0-is c.in-Err-NoRoom.ensures in
-    full_diagnosed c.args.script.now c.args.options found.items c.add_reason-in-Err-NoRoom.new.text.items c.in_ok-length-in-Err-NoRoom.length c.requires.history w.0 (w.1 ∙ c.requires.empty) (e.0 ∙ l, e.1)
+    full_diagnosed c.args.script.now c.args.options found.items c.add_reason-in-Err-NoRoom.new.text.items c.in_ok-length-in-Err-NoRoom.length c.requires.history
+    (faulty_by c.args.script.now c.args.options w.0) (w.1 ∙ c.requires.empty) (e.0 ∙ l, e.1)
