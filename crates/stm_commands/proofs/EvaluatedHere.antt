@@ -24,7 +24,7 @@ use Rattle.stm_events.specs.SlowDesk.{Waiter, Slow, under, verdict_on, is_curren
 use Rattle.stm_terms.specs.Limits.{max_waiting}
 use Rattle.stm_events.specs.States.{IsLegalFrom}
 use Rattle.stm_machine.specs.Checkpoints.{MayStart}
-use Rattle.stm_machine.proofs.Agreeing.{reads_differ_nowhere}
+use Rattle.stm_machine.proofs.SameReadsElsewhere.{reads_differ_nowhere}
 use Rattle.stm_events.proofs.Rising.{waiter_delivered}
 use Rattle.stm_desk.specs.Evaluating.{EvaluatedSoFar, verdict_of_waiter, verdict_under, with_installed, with_evaluated, evaluate_unless, evaluate_each, none_evaluated, evaluate_lowest}
 use Rattle.stm_desk.specs.DeskView.{DeskView, start_state, state_of, is_full, with_event, DeskQueueIsRight, AllHaveVerdicts}

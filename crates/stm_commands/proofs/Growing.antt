@@ -24,7 +24,7 @@ use Rattle.stm_machine.specs.Checkpoints.{MayStart}
 use Rattle.stm_events.specs.SlowDesk.{Slow, Waiter, after, find_waiter}
 use Rattle.stm_events.specs.States.{IsPossible, IsTicketOf, IsLegalFrom}
 use Rattle.stm_events.proofs.Folds.{state-append}
-use Rattle.stm_events.proofs.Kept.{ticket_waiting, ticket_from}
+use Rattle.stm_events.proofs.KeptByLegalHistories.{ticket_waiting, ticket_from}
 use Rattle.stm_desk.specs.DeskView.{DeskView, start_state, state_of, with_event}
 use Rattle.stm_events.specs.SlowAtomically.{atomically}
 use Rattle.stm_desk.specs.declared.atomic.Ran.{Ran}

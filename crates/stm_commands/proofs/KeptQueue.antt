@@ -22,7 +22,7 @@ use Rattle.stm_events.specs.Laws.{AreRising}
 use Rattle.stm_machine.specs.QueueAndIndex.{ArePending, due_of, with_tickets}
 use Rattle.stm_events.specs.Refusals.{pending_left}
 use Rattle.stm_events.specs.SlowDesk.{Waiter, Slow, is_current, waking, becomes_stale, after_writes, find_waiter, without_waiter, after, Allows, MayFinish}
-use Rattle.stm_machine.proofs.Points.{not_yet, has_with_tickets, queue_push, queue_delivered, queue_gone, stale_of, queue_finished, has_stale}
+use Rattle.stm_machine.proofs.QueueAndIndexByTicket.{not_yet, has_with_tickets, queue_push, queue_delivered, queue_gone, stale_of, queue_finished, has_stale}
 use Rattle.stm_events.proofs.Rising.{rising_without, waiter_without, waiter_delivered, waiter_marks, waiter_push}
 use Rattle.stm_desk.specs.DeskView.{pending_after}
 

@@ -8,7 +8,7 @@ use Rattle.stm_events.specs.declared.event.Event.{Event}
 use Rattle.stm_events.specs.SlowDesk.{Slow, LegalFrom, after, state_from}
 use Rattle.stm_events.specs.States.{IsPossible, IsLegalFrom}
 use Rattle.stm_events.proofs.Folds.{state-append}
-use Rattle.stm_events.proofs.Kept.{IsLegalAppend, legal-append}
+use Rattle.stm_events.proofs.KeptByLegalHistories.{IsLegalAppend, legal-append}
 use Rattle.stm_events.proofs.Possible.{possible_from}
 use Rattle.stm_machine.specs.Checkpoints.{start_of, MayStart}
 use Rattle.stm_desk.specs.DeskView.{DeskView, start_state, state_of}

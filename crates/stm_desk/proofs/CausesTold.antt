@@ -27,9 +27,9 @@ use Rattle.stm_events.specs.Headline.{is_installed, waking_at, waking_from}
 use Rattle.stm_events.specs.Laws.{SubmittedAreWellTyped}
 use Rattle.stm_events.specs.SlowDesk.{Since, Waiter, Slow, declaration, MayFinish, Allows, under, verdict_on, looked_on, intersects, is_stale_since, is_new_since, current_since, find_waiter, after, state_from, LegalFrom}
 use Rattle.stm_events.specs.States.{HadVerdict, IsPossible, IsTypedState}
-use Rattle.stm_events.proofs.Alike.{meets-append}
+use Rattle.stm_events.proofs.AlikeWaitersStay.{meets-append}
 use Rattle.stm_events.proofs.Folds.{after-rule, state-rule}
-use Rattle.stm_events.proofs.Fresh.{still_holds}
+use Rattle.stm_events.proofs.CurrentHoldsNow.{still_holds}
 use Rattle.stm_events.proofs.Possible.{possible_after, had_waiter, some_verdict}
 use Rattle.stm_events.proofs.Stores.{value_stays}
 use Rattle.stm_events.proofs.SinceFrom.{IsSinceFrom, IsSinceBefore}

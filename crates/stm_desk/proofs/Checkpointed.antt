@@ -11,7 +11,7 @@ use Rattle.stm_events.specs.Labels.{Labels}
 use Rattle.stm_events.specs.SlowDesk.{Slow, state_from}
 use Rattle.stm_events.specs.States.{IsTypedState, observed}
 use Rattle.stm_events.proofs.Folds.{state-rule}
-use Rattle.stm_events.proofs.Kept.{variables_stay_covered}
+use Rattle.stm_events.proofs.KeptByLegalHistories.{variables_stay_covered}
 use Rattle.stm_machine.specs.Checkpoints.{CheckpointView, IsCheckpoint, checkpoint_of, checkpoint_state, with_labels, with_causes, start_of, MayStart, max_next}
 use Rattle.stm_machine.specs.Machine.{Parts}
 use Rattle.stm_machine.proofs.CheckpointLabels.{same_state, caused_state}

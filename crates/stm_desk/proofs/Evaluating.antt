@@ -14,7 +14,7 @@ use Rattle.stm_machine.specs.Keeping.{IsVerdictUnder}
 use Rattle.stm_machine.specs.Machine.{Parts, IsAt}
 use Rattle.stm_machine.specs.QueueAndIndex.{due_of}
 use Rattle.stm_events.specs.SlowDesk.{Waiter, Slow}
-use Rattle.stm_machine.proofs.Taking.{take_more}
+use Rattle.stm_machine.proofs.JobsHandedOut.{take_more}
 use Rattle.stm_desk.specs.DeskView.{DeskView, state_of, is_full, with_event}
 use Rattle.stm_desk.proofs.Turns.{store_install}
 use Rattle.stm_desk.specs.Evaluating.{EvaluatedSoFar, with_evaluated, evaluate_unless, evaluate_each, none_evaluated, evaluate_lowest}

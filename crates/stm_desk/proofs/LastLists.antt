@@ -15,7 +15,7 @@ use Rattle.stm_events.specs.SlowDesk.{Since, Waiter, Slow, MayInstall, under, ve
 use Rattle.stm_events.specs.Laws.{SubmittedAreWellTyped}
 use Rattle.stm_events.specs.States.{HadVerdict, IsPossible, IsTypedState}
 use Rattle.stm_events.proofs.Folds.{after-rule, state-rule, state-append}
-use Rattle.stm_events.proofs.Kept.{IsLegalAppend, legal-append, ticket_waiting, ticket_from}
+use Rattle.stm_events.proofs.KeptByLegalHistories.{IsLegalAppend, legal-append, ticket_waiting, ticket_from}
 use Rattle.stm_events.proofs.Possible.{possible_after, possible_from, had_waiter, some_verdict}
 use Rattle.stm_events.proofs.Rising.{waiter_delivered}
 use Rattle.stm_events.proofs.SinceFrom.{IsSinceFrom, IsSinceBefore}

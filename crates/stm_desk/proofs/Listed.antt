@@ -20,9 +20,9 @@ use Rattle.stm_events.specs.Headline.{installs_to, is_installed}
 use Rattle.stm_events.specs.Laws.{AreRising}
 use Rattle.stm_events.specs.SlowDesk.{Since, Waiter, Slow, MayFinish, under, verdict_on, looked_on, waking, intersects, is_current, current_since, becomes_stale, stale_after, find_waiter, without_waiter, with_delivery, woken_more, after_writes, after, Allows, state_from, LegalFrom}
 use Rattle.stm_events.specs.States.{IsPossible}
-use Rattle.stm_events.proofs.Alike.{meets-append}
+use Rattle.stm_events.proofs.AlikeWaitersStay.{meets-append}
 use Rattle.stm_events.proofs.Folds.{after-rule}
-use Rattle.stm_events.proofs.Fresh.{still_holds}
+use Rattle.stm_events.proofs.CurrentHoldsNow.{still_holds}
 use Rattle.stm_events.proofs.Possible.{possible_after}
 use Rattle.stm_events.proofs.Rising.{low, not_above, rising_without, waiter_without, waiter_delivered, waiter_marks, waiter_push}
 use Rattle.stm_desk.specs.declared.reason.Change.{Change}

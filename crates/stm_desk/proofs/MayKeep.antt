@@ -19,7 +19,7 @@ use Rattle.stm_events.specs.declared.kept_cause.KeptCause.{KeptCause}
 use Rattle.stm_events.specs.Laws.{AreRising, SubmittedAreWellTyped}
 use Rattle.stm_events.specs.SlowDesk.{Waiter, Slow, MayFinish, under, find_waiter, after, Allows, state_from, LegalFrom}
 use Rattle.stm_events.specs.States.{IsPossible, IsTypedState}
-use Rattle.stm_events.proofs.Kept.{variables_stay_covered}
+use Rattle.stm_events.proofs.KeptByLegalHistories.{variables_stay_covered}
 use Rattle.stm_events.proofs.Possible.{possible_after}
 use Rattle.stm_events.proofs.Rising.{low, not_above}
 use Rattle.stm_events.proofs.TypedStores.{typed_after}

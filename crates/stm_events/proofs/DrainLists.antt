@@ -11,8 +11,8 @@ use Rattle.stm_events.specs.SlowSettle.{lowest, is_due, ends, can_end}
 use Rattle.stm_events.specs.SlowDrain.{is_next}
 use Rattle.stm_events.specs.Laws.{AreRising}
 use Rattle.stm_events.specs.States.{IsUnwoken, AreUnwoken, HadVerdict, HadVerdicts}
-use Rattle.stm_events.proofs.Alike.{IsAlike, AreAlike, same_current, alike_marked, meets-append}
-use Rattle.stm_events.proofs.Fresh.{stays}
+use Rattle.stm_events.proofs.AlikeWaitersStay.{IsAlike, AreAlike, same_current, alike_marked, meets-append}
+use Rattle.stm_events.proofs.CurrentHoldsNow.{stays}
 use Rattle.stm_events.proofs.Possible.{some_verdict}
 use Rattle.stm_events.proofs.Rounds.{not_due}
 use Rattle.stm_events.proofs.SettlingAllowed.{lowest_found}

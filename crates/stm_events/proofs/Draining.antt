@@ -12,9 +12,9 @@ use Rattle.stm_events.specs.SlowSettle.{lowest, is_due, ends, can_end, installin
 use Rattle.stm_events.specs.SlowDrain.{is_next, drain_of, next_drain, draining, drain_stop, Served, served, after_all, ServesAs, DrainsAsSettling}
 use Rattle.stm_events.specs.Laws.{AreRising}
 use Rattle.stm_events.specs.States.{ObservedWaiter, IsPossible, IsTypedState, observed}
-use Rattle.stm_events.proofs.Alike.{with_waiters, alike_to}
+use Rattle.stm_events.proofs.AlikeWaitersStay.{with_waiters, alike_to}
 use Rattle.stm_events.proofs.DrainLists.{dues, dues_installed, dues_without, AllCurrent, all_current, no_dues, current_without, AreBehind, MayBeBehind, behind_itself, behind_installed, caught_up, behind_without, behind_marks, dues_marks, rest_alike, lowest_ends, next_none, next_due, next_end}
-use Rattle.stm_events.proofs.Fresh.{fresh_without}
+use Rattle.stm_events.proofs.CurrentHoldsNow.{fresh_without}
 use Rattle.stm_events.proofs.Possible.{possible_after, had_without}
 use Rattle.stm_events.proofs.Running.{running_more, running_ends, running_crowded, stopping_more, stopping_ends, stopping_full, stopping_crowded, same_run}
 use Rattle.stm_events.proofs.SettlingAllowed.{lowest_found, lowest_none, IsAllowed, installs_next, ends_next, next_allowed}

@@ -7,7 +7,7 @@ use Rattle.stm_events.specs.Headline.{waking_from}
 use Rattle.stm_events.specs.HeadlineFrom.{state_then_from, IsMarkedRightlyFrom, IsMarkedRightlyBefore, IsKnownFrom, Fresh, Evaluated, Before, HeadlineFrom}
 use Rattle.stm_events.specs.SlowDesk.{Since, Waiter, Slow, verdict_on, looked_on, intersects, is_stale_since, is_new_since, current_since, is_current, find_waiter, state_from, LegalFrom}
 use Rattle.stm_events.specs.States.{IsPossible}
-use Rattle.stm_events.proofs.Alike.{meets-append}
+use Rattle.stm_events.proofs.AlikeWaitersStay.{meets-append}
 use Rattle.stm_events.proofs.Possible.{possible_from, current_verdict}
 use Rattle.stm_events.proofs.Serial.{serial_from}
 use Rattle.stm_events.proofs.SinceFrom as since

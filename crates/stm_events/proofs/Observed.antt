@@ -22,7 +22,7 @@ use Rattle.stm_events.specs.SlowDrain.{is_next, drain_of, next_drain}
 use Rattle.stm_events.specs.Laws.{AreRising}
 use Rattle.stm_events.proofs.Draining.{drain_allowed}
 use Rattle.stm_events.specs.States.{HadVerdicts, IsPossible, ObservedWaiter, observed, ObservationsDecide}
-use Rattle.stm_events.proofs.Alike.{IsAlike, AreAlike, MayBeAlike, alike_from, alike_to, same_current, same_new, same_standing, same_verdict, with_waiters, alike_after, same_length, alike_found, alike_lowest, same_stales, alike_without}
+use Rattle.stm_events.proofs.AlikeWaitersStay.{IsAlike, AreAlike, MayBeAlike, alike_from, alike_to, same_current, same_new, same_standing, same_verdict, with_waiters, alike_after, same_length, alike_found, alike_lowest, same_stales, alike_without}
 use Rattle.stm_events.proofs.Possible.{had_without, possible_after}
 use Rattle.stm_events.proofs.SettlingAllowed.{IsAllowed, next_allowed}
 

@@ -12,9 +12,9 @@ use Rattle.stm_events.specs.declared.staleness.StalenessRule.{StalenessRule}
 use Rattle.stm_events.specs.SlowDesk.{Since, Waiter, Slow, under, verdict_on, is_stale_since, waking, MayInstall, find_waiter, without_waiter, with_delivery, delivered, woken_more, after_writes, after, Allows, initial_state, state_from, LegalFrom}
 use Rattle.stm_events.specs.States.{HadVerdict, HadVerdicts, IsPossible, PossibleStatesStay}
 use Rattle.stm_events.proofs.Covered.{covered_after}
-use Rattle.stm_events.proofs.Few.{few_after}
+use Rattle.stm_events.proofs.WaitingAreFew.{few_after}
 use Rattle.stm_events.proofs.NamedVariables.{named_initial, named_after}
-use Rattle.stm_events.proofs.Fresh.{fresh_after, still_holds}
+use Rattle.stm_events.proofs.CurrentHoldsNow.{fresh_after, still_holds}
 use Rattle.stm_events.proofs.Rising.{rising_after, next_after}
 
 -- ---- each waiting block had a verdict at its delivery

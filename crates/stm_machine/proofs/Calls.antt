@@ -20,9 +20,9 @@ use Rattle.stm_machine.specs.Entries.{AreKeptOf, kept_reads}
 use Rattle.stm_machine.specs.Machine.{Parts, IsAt, HasTicketLeft}
 use Rattle.stm_machine.specs.QueueAndIndex.{due_of}
 use Rattle.stm_events.specs.Refusals.{missing, submit_first, submit_refused, label_first, label_refused, cancel_first, cancel_refused}
-use Rattle.stm_machine.proofs.Due.{IsSame, IsFound, found, below_due}
-use Rattle.stm_machine.proofs.Points.{not_yet}
-use Rattle.stm_machine.proofs.Moves.{stands_submit, stands_cancel}
+use Rattle.stm_machine.proofs.KeptBlocksWait.{IsSame, IsFound, found, below_due}
+use Rattle.stm_machine.proofs.QueueAndIndexByTicket.{not_yet}
+use Rattle.stm_machine.proofs.MovesFollowEvents.{stands_submit, stands_cancel}
 use Rattle.stm_machine.proofs.States.{IsLike, rising_at, moves_to, like_at, same_store, same_length}
 
 -- ---- what is kept under a ticket, and who waits under it

@@ -22,12 +22,12 @@ use Rattle.stm_events.specs.Laws.{AreRising}
 use Rattle.stm_events.specs.SlowDesk.{Since, Waiter, Standing, Stale, Current, under, verdict_on, looked_on, intersects, is_stale_since, is_new_since, current_since, weak_since}
 use Rattle.stm_events.specs.States.{AreCovered, IsUnwoken, AreUnwoken, HadVerdict, HadVerdicts, IsPossible, AreWellTyped, WasTyped, WereTyped, ObservedWaiter, observed_waiter}
 use Rattle.stm_events.specs.BlockStatus.{read_since_then}
-use Rattle.stm_events.proofs.Fresh.{stays}
+use Rattle.stm_events.proofs.CurrentHoldsNow.{stays}
 use Rattle.stm_waiting.specs.declared.waiting.Held.{Held}
 use Rattle.stm_machine.specs.declared.checkpoint.CheckpointBlock.{CheckpointBlock}
 use Rattle.stm_machine.specs.Checkpoints.{CheckpointView, store_with, since_held, waiter_of, checkpoint_state, IsRightDelivery, AreCheckpointBlocks, IsCheckpoint, CheckpointsArePossible, held_since, block_of_waiter, checkpoint_of, CheckpointsAreUnseen}
 use Rattle.stm_machine.proofs.CheckpointLabels.{no_label_is}
-use Rattle.stm_machine.proofs.Agreeing.{differs_nowhere}
+use Rattle.stm_machine.proofs.SameReadsElsewhere.{differs_nowhere}
 use Rattle.stm_machine.proofs.Delivery.{none_differs}
 use Rattle.stm_machine.proofs.StoreWith.{has_values, other_value, same_values, same_kinds, not_found, values_fit}
 

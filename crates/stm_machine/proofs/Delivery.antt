@@ -27,7 +27,7 @@ use Rattle.stm_waiting.specs.Entries.{with_held}
 use Rattle.stm_machine.specs.Machine.{Parts, IsAt, MayDeliver}
 use Rattle.stm_machine.specs.QueueAndIndex.{due_of}
 use Rattle.stm_events.specs.Refusals.{has_value, differing, overtaken_first, install_first, DeliveryRefusedAt, pending_left}
-use Rattle.stm_machine.proofs.Moves.{stands_install}
+use Rattle.stm_machine.proofs.MovesFollowEvents.{stands_install}
 use Rattle.stm_machine.proofs.States.{IsLike, moves_to, like_at, same_store}
 
 -- ---- values found equal are equal

@@ -30,9 +30,9 @@ use Rattle.stm_machine.specs.Plans.{IsPlan}
 use Rattle.stm_events.specs.Refusals.{overflows, finish_first}
 use Rattle.stm_machine.proofs.Calls.{waits}
 use Rattle.stm_machine.proofs.Delivery.{not_current, current}
-use Rattle.stm_machine.proofs.Moves.{IsUnwatched, stands_finish}
-use Rattle.stm_machine.proofs.Points.{stale_of, has_stale}
-use Rattle.stm_machine.proofs.Rises.{stale_is, stale_rising, watched_stale}
+use Rattle.stm_machine.proofs.MovesFollowEvents.{IsUnwatched, stands_finish}
+use Rattle.stm_machine.proofs.QueueAndIndexByTicket.{stale_of, has_stale}
+use Rattle.stm_machine.proofs.AscendingListsAreOne.{stale_is, stale_rising, watched_stale}
 use Rattle.stm_machine.proofs.States.{IsLike, rising_at, covered_at, holds_at, moves_to, like_at, same_verdict, same_rule, same_store}
 
 -- ---- what it is refused for, by what is kept

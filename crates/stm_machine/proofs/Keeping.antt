@@ -23,7 +23,7 @@ use Rattle.stm_machine.specs.QueueAndIndex.{due_of}
 use Rattle.stm_machine.specs.Keeping.{IsVerdictUnder, MayKeep}
 use Rattle.stm_machine.proofs.Calls.{waits}
 use Rattle.stm_machine.proofs.Delivery.{not_current}
-use Rattle.stm_machine.proofs.Moves.{stands_install}
+use Rattle.stm_machine.proofs.MovesFollowEvents.{stands_install}
 use Rattle.stm_machine.proofs.States.{IsLike, covered_at, moves_to, like_at, same_verdict, same_store}
 
 -- the store has the variables that a waiting block names

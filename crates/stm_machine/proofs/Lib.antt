@@ -1,12 +1,12 @@
 -- What the machine keeps.
-pub mod Due
+pub mod KeptBlocksWait
 pub mod Keeping
-pub mod Points
-pub mod Rises
-pub mod Stales
+pub mod QueueAndIndexByTicket
+pub mod AscendingListsAreOne
+pub mod IndexFindsStale
 pub mod StoreWith
 -- The states that it is at, its moves, and its questions.
-pub mod Agreeing
+pub mod SameReadsElsewhere
 pub mod BlocksByTicket
 pub mod BlocksInTurn
 pub mod Calls
@@ -16,12 +16,12 @@ pub mod CheckpointTaken
 pub mod Declaring
 pub mod Delivery
 pub mod Finishing
-pub mod Heads
-pub mod Moves
+pub mod LowestDueIsFirst
+pub mod MovesFollowEvents
 pub mod Reading
 pub mod Ready
 pub mod RightDeliveries
 pub mod RunAtOnce
 pub mod SameObserved
 pub mod States
-pub mod Taking
+pub mod JobsHandedOut

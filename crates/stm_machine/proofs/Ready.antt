@@ -23,9 +23,9 @@ use Rattle.stm_machine.specs.Machine.{Parts, IsAt}
 use Rattle.stm_machine.specs.QueueAndIndex.{with_tickets, due_of}
 use Rattle.stm_machine.specs.ReadySet.{AreReady}
 use Rattle.stm_machine.proofs.States.{rising_at, holds_at}
-use Rattle.stm_machine.proofs.Due.{IsFound, found, due_lose}
-use Rattle.stm_machine.proofs.Heads.{lowest_waits, lowest_holds}
-use Rattle.stm_machine.proofs.Points.{has_with_tickets}
+use Rattle.stm_machine.proofs.KeptBlocksWait.{IsFound, found, due_lose}
+use Rattle.stm_machine.proofs.LowestDueIsFirst.{lowest_waits, lowest_holds}
+use Rattle.stm_machine.proofs.QueueAndIndexByTicket.{has_with_tickets}
 
 -- ---- a block begins to wait
 absent_below : (t n : ℕ) (es : List (ℕ × Waiting)) → n ≤ t → AllBelow n es → kept_at t es ≡ None

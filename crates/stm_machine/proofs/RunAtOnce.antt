@@ -40,11 +40,11 @@ use Rattle.stm_machine.specs.QueueAndIndex.{due_of, watches_of, with_tickets}
 use Rattle.stm_machine.specs.ReadySet.{AreReady}
 use Rattle.stm_machine.proofs.BlocksByTicket.{inserted_waits}
 use Rattle.stm_machine.proofs.Calls.{MaySubmit, may_submit, none_missing, below_limit, moves_submit, next_absent}
-use Rattle.stm_machine.proofs.Due.{due_marks}
-use Rattle.stm_machine.proofs.Moves.{stands_install, reads_there}
-use Rattle.stm_machine.proofs.Points.{has_with_tickets, stale_of, has_stale, queue_finished, index_finished}
+use Rattle.stm_machine.proofs.KeptBlocksWait.{due_marks}
+use Rattle.stm_machine.proofs.MovesFollowEvents.{stands_install, reads_there}
+use Rattle.stm_machine.proofs.QueueAndIndexByTicket.{has_with_tickets, stale_of, has_stale, queue_finished, index_finished}
 use Rattle.stm_machine.proofs.Ready.{ready_wait, ready_held}
-use Rattle.stm_machine.proofs.Rises.{stale_is, stale_rising, watched_stale}
+use Rattle.stm_machine.proofs.AscendingListsAreOne.{stale_is, stale_rising, watched_stale}
 use Rattle.stm_machine.proofs.States.{rising_at, moves_to, same_rule, same_store, same_verdict}
 
 -- ---- the verdict of a block that may be submitted

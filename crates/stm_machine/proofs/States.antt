@@ -12,12 +12,12 @@ use Rattle.stm_events.specs.SlowDesk.{Since, Waiter, Slow, under, verdict_on, is
 use Rattle.stm_terms.specs.Limits.{max_waiting}
 use Rattle.stm_events.specs.Laws.{AreRising}
 use Rattle.stm_events.proofs.Covered.{covered_waiter}
-use Rattle.stm_events.proofs.Fresh.{still_holds}
+use Rattle.stm_events.proofs.CurrentHoldsNow.{still_holds}
 use Rattle.stm_events.proofs.Possible.{possible_after}
 use Rattle.stm_waiting.specs.declared.waiting.Waiting.{Waiting}
 use Rattle.stm_machine.specs.Machine.{Parts, Stands, IsAt}
 use Rattle.stm_machine.specs.QueueAndIndex.{due_of}
-use Rattle.stm_machine.proofs.Due.{IsFound, found, length_due}
+use Rattle.stm_machine.proofs.KeptBlocksWait.{IsFound, found, length_due}
 
 -- ---- what holds of it
 pub rising_at : (m : Parts) (s : Slow) → IsAt m s → AreRising s.next 0 s.waiters

@@ -4,5 +4,5 @@ pub mod Crosses
 mod Newcomers
 mod OneJob
 mod OnlyTheirs
-mod Owns
-mod Works
+mod ListOneLonger
+mod WorkUponWork

@@ -18,7 +18,7 @@ use Rattle.stm_machine.specs.JobsHandedOut.{block_at, sent}
 use Rattle.stm_events.specs.Refusals.{differing, overtaken_first, pending_left}
 use Rattle.stm_events.specs.SlowDesk.{Waiter, Slow, under, is_current, find_waiter, MayInstall}
 use Rattle.stm_events.specs.States.{IsPossible, IsTicketOf}
-use Rattle.stm_events.proofs.Kept.{ticket_waiting}
+use Rattle.stm_events.proofs.KeptByLegalHistories.{ticket_waiting}
 use Rattle.stm_desk.specs.Refusals.{requeued_if_overtaken}
 use Rattle.stm_desk.specs.DeskView.{DeskView, state_of, is_full}
 use Rattle.stm_commands.specs.Evaluation.{DeliveredSoFar, delivered_by, delivered_next, delivered_all, all_queued, evaluated}

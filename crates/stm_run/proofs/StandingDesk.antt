@@ -15,8 +15,8 @@ use Rattle.stm_events.specs.Laws.{SubmitsWellTyped, SubmittedAreWellTyped}
 use Rattle.stm_events.specs.SlowDesk.{Waiter, Slow, find_waiter, after, Allows, AllowsEvent, state_from, LegalFrom}
 use Rattle.stm_terms.specs.Limits.{max_events}
 use Rattle.stm_events.specs.States.{IsPossible, IsTicketOf, observed, IsLegalFrom}
-use Rattle.stm_events.proofs.Alike.{MayBeAlike, alike_from, alike_found, same_current}
-use Rattle.stm_events.proofs.Kept.{ticket_after, variables_stay_covered}
+use Rattle.stm_events.proofs.AlikeWaitersStay.{MayBeAlike, alike_from, alike_found, same_current}
+use Rattle.stm_events.proofs.KeptByLegalHistories.{ticket_after, variables_stay_covered}
 use Rattle.stm_machine.specs.Checkpoints.{CheckpointView, IsCheckpoint, checkpoint_state, checkpoint_of, with_labels, start_of, MayStart, max_next}
 use Rattle.stm_machine.specs.Machine.{event}
 use Rattle.stm_machine.specs.QueueAndIndex.{due_of}

@@ -27,7 +27,7 @@ use Rattle.stm_events.specs.Laws.{SubmitsWellTyped}
 use Rattle.stm_events.specs.SlowDesk.{Since, Waiter, Slow, declaration, under, verdict_on, looked_on, waking, intersects, is_stale_since, is_new_since, current_since, find_waiter, without_waiter, with_delivery, woken_more, after_writes, after, Allows, state_from}
 use Rattle.stm_events.specs.SlowSettle.{ends}
 use Rattle.stm_events.specs.States.{IsPossible, observed}
-use Rattle.stm_events.proofs.Alike.{IsAlike, AreAlike, MayBeAlike, alike_from, alike_found, same_current, meets-append}
+use Rattle.stm_events.proofs.AlikeWaitersStay.{IsAlike, AreAlike, MayBeAlike, alike_from, alike_found, same_current, meets-append}
 use Rattle.stm_events.proofs.Observed.{observed_after}
 use Rattle.stm_events.proofs.Possible.{possible_from}
 use Rattle.stm_events.proofs.Rising.{waiter_without, waiter_delivered, waiter_marks, waiter_push}

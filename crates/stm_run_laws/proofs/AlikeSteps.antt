@@ -46,7 +46,7 @@ use Rattle.stm_terms.specs.Limits.{max_waiting}
 use Rattle.stm_events.specs.SlowSettle.{Order, next_what, has_cells, settle_on, running, Stop, NoRoom, NoCells, stop_on, run_stop, finishes, installs}
 use Rattle.stm_events.specs.SlowDrain.{next_drain}
 use Rattle.stm_events.specs.States.{IsPossible}
-use Rattle.stm_events.proofs.Alike.{AreAlike, MayBeAlike, alike_without, same_stales, same_verdict}
+use Rattle.stm_events.proofs.AlikeWaitersStay.{AreAlike, MayBeAlike, alike_without, same_stales, same_verdict}
 use Rattle.stm_events.proofs.Possible.{had_without, possible_after}
 use Rattle.stm_machine.specs.Machine.{event}
 use Rattle.stm_machine.specs.JobsHandedOut.{sent}

@@ -17,7 +17,7 @@ use Rattle.stm_events.specs.Laws.{SubmitsWellTyped, SubmittedAreWellTyped}
 use Rattle.stm_events.specs.SlowSettle.{ends}
 use Rattle.stm_events.specs.SlowDesk.{Since, Waiter, Slow, under, find_waiter, Allows}
 use Rattle.stm_events.specs.States.{IsPossible, observed}
-use Rattle.stm_events.proofs.Alike.{IsAlike, AreAlike, MayBeAlike, alike_from, alike_found, same_length, same_standing, same_current, same_verdict}
+use Rattle.stm_events.proofs.AlikeWaitersStay.{IsAlike, AreAlike, MayBeAlike, alike_from, alike_found, same_length, same_standing, same_current, same_verdict}
 use Rattle.stm_events.proofs.Folds.{legal_split}
 use Rattle.stm_events.proofs.Observed.{observed_after, observed_answers}
 use Rattle.stm_events.proofs.Possible.{possible_after}

@@ -3,7 +3,7 @@ use Rattle.std.proofs.Common.{◌≡◌, ℕ, List, [], ◌∷◌, ◌++◌, len
 use Rattle.stm_store.specs.Tables.{Declared}
 use Rattle.stm_events.specs.declared.event.Event.{Event}
 use Rattle.stm_events.specs.SlowDesk.{IsLegal}
-use Rattle.stm_events.proofs.Kept.{legal-append}
+use Rattle.stm_events.proofs.KeptByLegalHistories.{legal-append}
 use Rattle.stm_history.specs.declared.fault.HistoryFault.TheVariants as history_fault
 use Rattle.stm_history.specs.Judgement.{IsFirstIllegal}
 use Rattle.stm_pool.specs.declared.storm.Counts.{Counts}

@@ -1,4 +1,4 @@
-use Rattle.stm_events.proofs.Fresh.{current_holds}
+use Rattle.stm_events.proofs.CurrentHoldsNow.{current_holds}
 use Rattle.stm_events.proofs.laws.current_holds.Goals as goal
 
 pub returns : goal.returns

@@ -1,4 +1,4 @@
-use Rattle.stm_events.proofs.Kept.{tickets_stay}
+use Rattle.stm_events.proofs.KeptByLegalHistories.{tickets_stay}
 use Rattle.stm_events.proofs.laws.tickets_stay.Goals as goal
 
 pub returns : goal.returns

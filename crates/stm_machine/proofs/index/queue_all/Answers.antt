@@ -4,7 +4,7 @@ use Rattle.std.proofs.lemmas.List.{at_drop_more}
 use Rattle.stm_queue.specs.Queue.{has_ticket}
 use Rattle.stm_queue.specs.SortedTickets.{IsRising}
 use Rattle.stm_machine.specs.QueueAndIndex.{with_tickets}
-use Rattle.stm_machine.proofs.Rises.{queue_next, next_rising}
+use Rattle.stm_machine.proofs.AscendingListsAreOne.{queue_next, next_rising}
 use Rattle.stm_machine.proofs.index.queue_all.Goals as goal
 
 pub loop-ticket-preserved : goal.loop-ticket-preserved

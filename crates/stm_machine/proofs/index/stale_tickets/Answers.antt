@@ -1,7 +1,7 @@
 use Rattle.std.proofs.Common.{ℕ, ◌∙◌, not, ◌&&◌, Bool, List, ap, nat_eq}
 use Rattle.stm_watch.specs.Pairs.{watches}
 use Rattle.stm_queue.proofs.InvariantPreserved.{delete_rising, member_delete}
-use Rattle.stm_machine.proofs.Rises.{rises}
+use Rattle.stm_machine.proofs.AscendingListsAreOne.{rises}
 use Rattle.stm_machine.proofs.index.stale_tickets.Goals as goal
 
 pub returns-clause-rising : goal.returns-clause-rising

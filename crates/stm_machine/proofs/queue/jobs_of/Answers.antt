@@ -4,7 +4,7 @@ use Rattle.std.proofs.lemmas.List.{map-append}
 use Rattle.stm_eval.specs.declared.job.Job.{Job}
 use Rattle.stm_queue.specs.Queue.{queued}
 use Rattle.stm_queue.proofs.Membership.{in_queue}
-use Rattle.stm_machine.proofs.Taking.{take_more, take_past, kept_job-push}
+use Rattle.stm_machine.proofs.JobsHandedOut.{take_more, take_past, kept_job-push}
 use Rattle.stm_machine.proofs.queue.jobs_of.Goals as goal
 
 pub job_of-requires : goal.job_of-requires

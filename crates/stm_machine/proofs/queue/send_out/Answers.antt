@@ -1,7 +1,7 @@
 use Rattle.std.proofs.Common.{◌∙◌, ◌-◌, ◌+◌, ap, Option, ℕ}
 use Rattle.stm_queue.specs.Queue.{sent_out}
 use Rattle.stm_machine.specs.JobsHandedOut.{sent}
-use Rattle.stm_machine.proofs.Taking.{sent_more}
+use Rattle.stm_machine.proofs.JobsHandedOut.{sent_more}
 use Rattle.stm_machine.proofs.queue.send_out.Goals as goal
 
 pub loop-preserved : goal.loop-preserved

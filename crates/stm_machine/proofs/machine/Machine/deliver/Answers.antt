@@ -4,7 +4,7 @@ use Rattle.stm_eval.proofs.FragmentsAndStores.{to_store}
 use Rattle.stm_waiting.proofs.TicketMembers.{member_if}
 use Rattle.stm_machine.specs.Machine.{Parts, IsAt}
 use Rattle.stm_machine.proofs.Delivery.{moves_deliver, deliver_queued}
-use Rattle.stm_machine.proofs.Taking.{queued_wait}
+use Rattle.stm_machine.proofs.JobsHandedOut.{queued_wait}
 use Rattle.stm_machine.proofs.Ready.{due_absent, ready_held}
 use Rattle.stm_machine.proofs.machine.Machine.deliver.Goals as goal
 

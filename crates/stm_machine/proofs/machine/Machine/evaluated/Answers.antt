@@ -1,7 +1,7 @@
 use Rattle.std.proofs.Common.{◌≡◌, subst, sym}
 use Rattle.stm_store.specs.Cells.{plains}
 use Rattle.stm_machine.specs.Machine.{Parts, IsAt}
-use Rattle.stm_machine.proofs.Taking.{kept_waits, job_covered, is_present}
+use Rattle.stm_machine.proofs.JobsHandedOut.{kept_waits, job_covered, is_present}
 use Rattle.stm_machine.proofs.machine.Machine.evaluated.Goals as goal
 
 pub job_of-requires : goal.job_of-requires

@@ -1,7 +1,7 @@
 use Rattle.std.proofs.Common.{◌∙◌, sym}
 use Rattle.stm_queue.proofs.QueuedOnes.{first_of_queued}
 use Rattle.stm_machine.proofs.States.{rising_at}
-use Rattle.stm_machine.proofs.Heads.{head_due, head_queued}
+use Rattle.stm_machine.proofs.LowestDueIsFirst.{head_due, head_queued}
 use Rattle.stm_machine.proofs.machine.Machine.first_due.Goals as goal
 
 pub returns : goal.returns

@@ -2,7 +2,7 @@ use Rattle.std.proofs.Common.{◌∙◌, refl, sym, subst}
 use Rattle.stm_waiting.proofs.TicketMembers.{member_if}
 use Rattle.stm_machine.specs.Machine.{Parts, IsAt}
 use Rattle.stm_machine.proofs.Keeping.{moves_keep}
-use Rattle.stm_machine.proofs.Taking.{kept_waits, queued_wait}
+use Rattle.stm_machine.proofs.JobsHandedOut.{kept_waits, queued_wait}
 use Rattle.stm_machine.proofs.Ready.{due_absent, ready_held}
 use Rattle.stm_machine.proofs.machine.Machine.keep.Goals as goal
 

@@ -5,7 +5,7 @@ use Rattle.stm_store.specs.Cells.{plains}
 use Rattle.stm_terms.specs.Limits.{max_waiting}
 use Rattle.stm_events.specs.Refusals.{missing}
 use Rattle.stm_machine.specs.Machine.{Parts, IsAt}
-use Rattle.stm_machine.proofs.Due.{length_due}
+use Rattle.stm_machine.proofs.KeptBlocksWait.{length_due}
 use Rattle.stm_machine.proofs.machine.Machine.may_submit.Goals as goal
 
 pub returns-in-Some-clause-refused : goal.returns-in-Some-clause-refused

@@ -2,7 +2,7 @@ use Rattle.std.proofs.Common.{◌≡◌, length, refl, rules, sym, subst}
 use Rattle.stm_machine.specs.Machine.{Parts, IsAt}
 use Rattle.stm_machine.specs.JobsHandedOut.{AreJobs}
 use Rattle.stm_machine.proofs.States.{covered_at, requeued}
-use Rattle.stm_machine.proofs.Taking.{queued_wait, has_sent, are_jobs, are_covered}
+use Rattle.stm_machine.proofs.JobsHandedOut.{queued_wait, has_sent, are_jobs, are_covered}
 use Rattle.stm_machine.proofs.Ready.{ready_same}
 use Rattle.stm_machine.proofs.machine.Machine.take.Goals as goal
 

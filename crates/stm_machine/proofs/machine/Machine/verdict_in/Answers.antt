@@ -7,7 +7,7 @@ use Rattle.stm_machine.specs.Keeping.{IsVerdictUnder}
 use Rattle.stm_machine.specs.Machine.{Parts, IsAt}
 use Rattle.stm_events.specs.SlowDesk.{Slow}
 use Rattle.stm_machine.proofs.Keeping.{kept_covered, if_verdict}
-use Rattle.stm_machine.proofs.Taking.{kept_waits}
+use Rattle.stm_machine.proofs.JobsHandedOut.{kept_waits}
 use Rattle.stm_machine.proofs.machine.Machine.verdict_in.Goals as goal
 
 pub unreachable-requires : goal.unreachable-requires

@@ -1,7 +1,7 @@
 use Rattle.std.proofs.Common.{◌∙◌, ◌≤◌, sym, subst, ℕ}
 use Rattle.stm_terms.specs.Limits.{max_waiting}
 use Rattle.stm_machine.specs.Machine.{Parts, IsAt}
-use Rattle.stm_machine.proofs.Due.{length_due}
+use Rattle.stm_machine.proofs.KeptBlocksWait.{length_due}
 use Rattle.stm_machine.proofs.States.{few_at}
 use Rattle.stm_machine.proofs.machine.Machine.waiting.Goals as goal
 

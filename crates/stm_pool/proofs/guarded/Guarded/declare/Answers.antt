@@ -1,7 +1,7 @@
 use Rattle.std.proofs.Common.{rules, arith, refl}
 use Rattle.stm_events.specs.declared.event.What.TheVariants.{Declared as DeclaredLate}
 use Rattle.stm_machine.specs.Machine.{event}
-use Rattle.stm_pool.proofs.Owns.{more_of}
+use Rattle.stm_pool.proofs.ListOneLonger.{more_of}
 use Rattle.stm_pool.proofs.guarded.Guarded.declare.Goals as goal
 
 pub invariant_of-pass-2 : goal.invariant_of-pass-2

@@ -19,8 +19,8 @@ use Rattle.stm_waiting.specs.Entries.{kept_at}
 use Rattle.stm_machine.specs.Entries.{AreKeptOf, IsHeld}
 use Rattle.stm_machine.specs.QueueAndIndex.{read_since, watches_of}
 use Rattle.stm_machine.specs.Machine.{AreWatched}
-use Rattle.stm_machine.proofs.Due.{IsSame, IsFound, found}
-use Rattle.stm_machine.proofs.Points.{meets-append, stale_of}
+use Rattle.stm_machine.proofs.KeptBlocksWait.{IsSame, IsFound, found}
+use Rattle.stm_machine.proofs.QueueAndIndexByTicket.{meets-append, stale_of}
 
 same_bools : (a b : Bool) → (a ≡ true → b ≡ true) → (b ≡ true → a ≡ true) → a ≡ b
 same_bools true b f g = sym (f refl)

@@ -22,8 +22,8 @@ use Rattle.stm_waiting.specs.Entries.{kept_at, lose, with_held, held_reads}
 use Rattle.stm_machine.specs.Entries.{AreKeptOf, kept_reads}
 use Rattle.stm_machine.specs.Machine.{Parts, Stands}
 use Rattle.stm_machine.specs.QueueAndIndex.{with_tickets, due_of, watches_of, read_since}
-use Rattle.stm_machine.proofs.Due.{IsFound, found, due_push, due_lose, due_marks, due_held, held_are}
-use Rattle.stm_machine.proofs.Points.{not_yet, has_with_tickets, queue_push, index_push, queue_delivered, index_delivered, queue_gone, index_gone, stale_of, queue_finished, index_finished, has_stale}
+use Rattle.stm_machine.proofs.KeptBlocksWait.{IsFound, found, due_push, due_lose, due_marks, due_held, held_are}
+use Rattle.stm_machine.proofs.QueueAndIndexByTicket.{not_yet, has_with_tickets, queue_push, index_push, queue_delivered, index_delivered, queue_gone, index_gone, stale_of, queue_finished, index_finished, has_stale}
 
 pub stands_submit : (s : Slow) (m : Parts) (b : Block) → AreRising s.next 0 s.waiters → Stands s m
     → Stands (after s (Submitted m.next b)) (record m { next = m.next + 1; entries = m.entries ++ (m.next, record { block = b; held = None }) ∷ []; pending = with_ticket m.next m.pending })

@@ -16,8 +16,8 @@ use Rattle.stm_events.proofs.Rising.{rising_without, waiter_without}
 use Rattle.stm_waiting.specs.declared.waiting.Waiting.{Waiting}
 use Rattle.stm_machine.specs.Entries.{AreKeptOf}
 use Rattle.stm_machine.specs.Machine.{AreWatched}
-use Rattle.stm_machine.proofs.Points.{stale_of, has_stale}
-use Rattle.stm_machine.proofs.Stales.{watches_stale}
+use Rattle.stm_machine.proofs.QueueAndIndexByTicket.{stale_of, has_stale}
+use Rattle.stm_machine.proofs.IndexFindsStale.{watches_stale}
 
 itself : (i : ℕ) → nat_eq i i ≡ true
 itself i = grind (arith, nat_tests)

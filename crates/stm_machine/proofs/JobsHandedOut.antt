@@ -22,9 +22,9 @@ use Rattle.stm_machine.specs.QueueAndIndex.{due_of}
 use Rattle.stm_eval.specs.CoveredJobs.{AreJobsCovered}
 use Rattle.stm_machine.specs.JobsHandedOut.{sent, block_at, AreJobs, IsKeptJob, AreKept, IsPresent}
 use Rattle.stm_events.specs.Refusals.{differing}
-use Rattle.stm_machine.proofs.Agreeing.{reads_differ_nowhere}
+use Rattle.stm_machine.proofs.SameReadsElsewhere.{reads_differ_nowhere}
 use Rattle.stm_machine.proofs.States.{covered_at}
-use Rattle.stm_machine.proofs.Due.{IsFound, found}
+use Rattle.stm_machine.proofs.KeptBlocksWait.{IsFound, found}
 
 -- ---- one more of a list
 take_suc : (xs : List ℕ) (i t : ℕ) → slice_get xs i ≡ Some t → take (suc i) xs ≡ take i xs ++ t ∷ []
