@@ -14,30 +14,10 @@ use std::alloc::Global;
 use stm_check::Typed;
 use stm_check::checker::Checker;
 use stm_check::scope::Scope;
-use stm_parse::lexer::lexemes;
-use stm_parse::limits::{DEEPEST, MOST_BYTES, MOST_TOKENS};
+use stm_parse::limits::DEEPEST;
 use stm_parse::token::Lexeme;
 use stm_store::Names;
 use stm_terms::{Action, Ty};
-
-// The tokens of a text that is not too large.
-#[tactic(auto, unfolding(stm_parse::specs::ParseResult::most_bytes, stm_parse::specs::ParseResult::most_tokens))]
-fn tokens_within_limits(alloc: Global, text: &str) -> Option<Vec<Lexeme>>
-    ensures right { IfSome result (λ v. LexesWithinLimits text.now v.items) }
-    ensures ascii { IfSome result (λ v. IsAscii text.now) }
-    ensures names { IfSome result (λ v. NamesOf text.now v.items) }
-{
-    if text.len() > MOST_BYTES {
-        return None;
-    }
-    let Ok(toks) = lexemes(alloc, text) else {
-        return None;
-    };
-    if toks.len() > MOST_TOKENS {
-        return None;
-    }
-    Some(toks)
-}
 
 // The tree of all of the tokens, and the type of its result, none for any.
 fn whole_action(
@@ -68,17 +48,21 @@ fn whole_action(
     Some((Box::into_inner(action), kind))
 }
 
-/// The block of a text over these names; none if the text is refused, or if memory ran out.
-///
-/// No clause says when there is none: whoever gets none has to parse and check the text.
-pub fn block_in_one_pass(alloc: Global, known: &Names, text: &str) -> Option<Typed>
+/// The block of a text over these names, from the tokens that `stm_parse::lexed` makes of the text; none if the text is refused, or if
+/// memory ran out.
+pub fn block_in_one_pass(
+    alloc: Global,
+    known: &Names,
+    text: &str,
+    toks: &[Lexeme],
+) -> Option<Typed>
+    requires right { LexesWithinLimits text.now toks.now }
+    requires ascii { IsAscii text.now }
+    requires names { NamesOf text.now toks.now }
     ensures { IfSome result (IsReadFrom known.now text.now) }
 {
-    let Some(toks) = tokens_within_limits(alloc, text) else {
-        return None;
-    };
     let mut uses = Vec::new(alloc);
-    let Some((action, kind)) = whole_action(alloc, known, text, &mut uses, &toks) else {
+    let Some((action, kind)) = whole_action(alloc, known, text, &mut uses, toks) else {
         return None;
     };
     let Ok(own) = String::from_str(alloc, text) else {

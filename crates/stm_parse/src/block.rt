@@ -20,9 +20,9 @@ use crate::token::{ErrorKind, Failure, Lexeme};
 use std::alloc::Global;
 use stm_terms::{Raw, RawAction};
 
-// The tokens of a text that is not too large.
+/// The tokens of a text that is not too large.
 #[tactic(auto, unfolding(crate::specs::ParseResult::most_bytes, crate::specs::ParseResult::most_tokens))]
-pub(crate) fn lexed(alloc: Global, text: &str) -> Result<Vec<Lexeme>, ParseFault>
+pub fn lexed(alloc: Global, text: &str) -> Result<Vec<Lexeme>, ParseFault>
     ensures right { MatchResult result (λ v. LexesWithinLimits text.now v.items)
         (λ e. IsEarly text.now e) }
     ensures ascii { IfOk result (λ v. IsAscii text.now) }
@@ -74,6 +74,30 @@ fn whole_block(alloc: Global, toks: &[Lexeme]) -> Result<RawAction, Failure>
     }
 }
 
+/// The block that a text writes, from the tokens that `lexed` makes of the text.
+///
+/// docs/LANGUAGE.md, "Grammar", has the productions, and "Which grammar error is reported" the order of the faults.
+pub fn parse_tokens(alloc: Global, text: &str, toks: &[Lexeme]) -> Result<Raw, ParseFault>
+    requires right { LexesWithinLimits text.now toks.now }
+    requires ascii { IsAscii text.now }
+    requires names { NamesOf text.now toks.now }
+    // What is read is a text of the tree, and a fault is the one to be reported.
+    ensures right { ReadsTreeByGrammar IsBlock (λ r. r.tree) text.now result }
+    // Each text is read, with its one tree, unless memory runs out.
+    ensures only { ReadsEachTree IsBlock (λ r. r.tree) text.now result }
+    ensures text { IfOk result (λ r. r.text ≡ text.now) }
+    // The answer is a function of the text.
+    ensures answer { AnswersUnless ParseFault.NoMemory (λ r. r.tree) result (parsed_block text.now) }
+{
+    match whole_block(alloc, toks) {
+        Ok(action) => {
+            let own = String::from_str(alloc, text)?;
+            Ok(Raw::of_parts(own, action))
+        }
+        Err(stop) => Err(fault_of_failure(toks, stop)),
+    }
+}
+
 /// The block that a text writes.
 ///
 /// docs/LANGUAGE.md, "Grammar", has the productions, and "Which grammar error is reported" the order of the faults.
@@ -87,11 +111,5 @@ pub fn parse_block(alloc: Global, text: &str) -> Result<Raw, ParseFault>
     ensures answer { AnswersUnless ParseFault.NoMemory (λ r. r.tree) result (parsed_block text.now) }
 {
     let toks = lexed(alloc, text)?;
-    match whole_block(alloc, &toks) {
-        Ok(action) => {
-            let own = String::from_str(alloc, text)?;
-            Ok(Raw::of_parts(own, action))
-        }
-        Err(stop) => Err(fault_of_failure(&toks, stop)),
-    }
+    parse_tokens(alloc, text, &toks)
 }

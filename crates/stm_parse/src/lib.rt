@@ -37,7 +37,7 @@ pub mod tokenizer;
 pub mod type_text;
 pub mod types;
 
-pub use block::parse_block;
+pub use block::{lexed, parse_block, parse_tokens};
 pub use declaration::{Declaration, Init, parse_declare};
 pub use expectation::{Expectation, parse_expectation};
 pub use fault::ParseFault;

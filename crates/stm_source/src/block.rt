@@ -9,7 +9,7 @@ use crate::refusal::Refusal;
 use std::alloc::Global;
 use stm_check::{SharedBlock, TypeFault, Typed, check};
 use stm_one_pass::block_in_one_pass;
-use stm_parse::{ParseFault, parse_block};
+use stm_parse::{ParseFault, lexed, parse_tokens};
 use stm_store::{DeclareError, Names};
 use stm_terms::NoMemory;
 
@@ -21,11 +21,12 @@ pub fn compile_block(alloc: Global, known: &Names, text: &str) -> Result<Typed, 
     ensures block { CompilesTo result (compiled_block known.now text.now) }
     ensures covered { IfOk result (UsesAreNamed known.now) }
 {
+    let toks = lexed(alloc, text)?;
     // A text that is refused, or lacks memory, goes by the parser and the check, which say why.
-    if let Some(block) = block_in_one_pass(alloc, known, text) {
+    if let Some(block) = block_in_one_pass(alloc, known, text, &toks) {
         return Ok(block);
     }
-    let raw = parse_block(alloc, text)?;
+    let raw = parse_tokens(alloc, text, &toks)?;
     let block = check(alloc, known, raw)?;
     Ok(block)
 }
