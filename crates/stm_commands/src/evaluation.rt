@@ -62,7 +62,7 @@ fn deliver_next(
     })
 }
 
-/// Delivers the next answer. For a job that wasn't evaluated memory ran out.
+/// Delivers the next answer. A job that comes back unevaluated means that memory ran out.
 fn deliver_answer(
     desk: &mut Desk,
     answer: Answer,

@@ -44,7 +44,7 @@ abbrev pub with_whats : DeskView → ℕ → List What → DeskView
 with_whats d client [] = d
 with_whats d client (x ∷ xs) = with_whats (with_event d client x) client xs
 
--- the history grew by exactly what the order of work does, with f finishes and e blocks run, and it stopped so
+-- the history grew by exactly what the order of work does, with f finishes and e blocks run, and then it stopped as this says
 pub record HasRun (next : Order) (client : ℕ) (old new : DeskView) (f e : ℕ) (stop : Option Stop) : Type 0 where
   pub grown : new ≡ with_whats old client (slow_run next old)
   pub finished : f ≡ finishes (slow_run next old)
@@ -82,14 +82,6 @@ HasHalted next NoMemory client old new f e = HasBegun next client old new f e
 abbrev pub RunsAs : Order → ℕ → DeskView → DeskView → Result Settled SettleStop → Type 0
 RunsAs next client old new (Ok r) = HasRun next client old new r.finished r.evaluations None
 RunsAs next client old new (Err e) = HasHalted next e.why client old new e.finished e.evaluations
-
--- settling did what its definition says: its counts, and why it stopped, if it did
-abbrev pub HasSettled : ℕ → DeskView → DeskView → ℕ → ℕ → Option Stop → Type 0
-HasSettled client old new f e stop = HasRun next_what client old new f e stop
-
--- settling stopped for this reason, and came so far
-abbrev pub HasStopped : SettleWhy → ℕ → DeskView → DeskView → ℕ → ℕ → Type 0
-HasStopped why client old new f e = HasHalted next_what why client old new f e
 
 -- settling did what its definition says, by what it returns
 abbrev pub SettlesAs : ℕ → DeskView → DeskView → Result Settled SettleStop → Type 0

@@ -42,7 +42,7 @@ pub enum SettleWhy {
     NoMemory,
 }
 
-/// Settling, or draining, stopped: how many blocks it had finished, how many deliveries were accepted, and why.
+/// Why settling, or draining, stopped, and how many finishes and accepted deliveries came before.
 #[derive(Clone, Copy, Debug, PartialEq, Eq, Error)]
 #[error("settled {finished} after {evaluations} evaluations: {why}")]
 pub struct SettleStop {

@@ -21,7 +21,7 @@ use stm_store::Applied;
 use stm_terms::NoMemory;
 
 /// What a finish did: the verdict, with the new variables before they were numbered; what applying it did; and the tickets
-/// that became stale, rising.
+/// that became stale, ascending.
 #[derive(Drop)]
 pub struct Finish {
     pub verdict: SharedVerdict,

@@ -106,8 +106,7 @@ impl<D: Device> HistoryFile<D> {
         requires fit { CanBeRecorded (start_of_file self.old table.now checkpoint) events.now }
         // The events come after those that the file has.
         ensures recorded { OnOk result (HasRecorded D.disk self.old self.new (start_of_file self.old table.now checkpoint.entry) events.now) }
-        // Whatever the result, a crash at any moment leaves the history from before, and of these events what the sync mode promises; and if
-        // the journal syncs, no other file, unless the crash tears the byte that opens the first batch.
+        // Whatever the result, a crash at any moment leaves what the sync mode promises (`LeavesRecording` says when it is another file).
         ensures any_moment { LeavesRecording D.disk self.old self.new (start_of_file self.old table.now checkpoint.entry) events.now }
         // A batch that is too long is refused, and nothing is written.
         ensures refused { RefusesLongEvents self.old self.new (start_of_file self.old table.now checkpoint.entry) events.now result }

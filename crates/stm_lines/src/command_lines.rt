@@ -75,7 +75,7 @@ pub fn next_command_line<R: Read, L: Ledger>(
     }
 }
 
-/// Reads the next line, and returns whether there is one. No clause says how often the reader is called, or what a fault leaves.
+/// Reads the next line, and returns whether there is one. No clause says what a fault leaves.
 pub fn has_next_line<R: Read, L: Ledger>(
     lines: &mut LineReader,
     calls: &mut Calls<R, L>,
@@ -84,6 +84,7 @@ pub fn has_next_line<R: Read, L: Ledger>(
     ensures line { IfOk result (λ some. IsNextLineIf some
         (unread R.remaining lines.old calls.old) (unread R.remaining lines.new calls.new)
         lines.new.line.items) }
+    ensures called { CountsCalls calls.old calls.new }
     ensures fault { IfErr result (λ e. e ≢ RunFault.Write) }
 {
     match next_command_line(lines, calls) {

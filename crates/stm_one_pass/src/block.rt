@@ -50,12 +50,9 @@ fn whole_action(
 
 /// The block of a text over these names, from the tokens that `stm_parse::lexed` makes of the text; none if the text is refused, or if
 /// memory ran out.
-pub fn block_in_one_pass(
-    alloc: Global,
-    known: &Names,
-    text: &str,
-    toks: &[Lexeme],
-) -> Option<Typed>
+///
+/// No clause says when there is none: whoever gets none has to parse the tokens and check the tree.
+pub fn block_in_one_pass(alloc: Global, known: &Names, text: &str, toks: &[Lexeme]) -> Option<Typed>
     requires right { LexesWithinLimits text.now toks.now }
     requires ascii { IsAscii text.now }
     requires names { NamesOf text.now toks.now }

@@ -184,7 +184,7 @@ impl<L: Ledger> SharedDesk<L> {
         was
     }
 
-    /// Waits until there are more than `seen` events, and returns how many; nothing if the desk
+    /// Waits until there are more than `seen` events, and returns their number; `None` if the desk
     /// was stopped before. No clause says when that is.
     pub fn wait_past<R: Wait>(&self, rt: &R, seen: u32) -> Option<u32>
         ensures { IfSome result (λ n. seen < n) }

@@ -53,7 +53,7 @@ fn counts_in<L: Ledger>(passes: &[Pass<L>], client: u32, extra: Extra) -> Counts
     }
 }
 
-/// The counts of the first clients, each with what left no event.
+/// The counts of the first clients. Each client here has the counts of what left no event.
 pub(crate) fn counts_of<L: Ledger>(
     alloc: Global,
     passes: &[Pass<L>],

@@ -187,7 +187,7 @@ impl<L: Ledger> Guarded<L> {
     }
 
     /// The job of the lowest queued ticket, which is out from then on, and an unchanging copy of
-    /// the present store, which has the variables of its block; nothing if no ticket is queued.
+    /// the present store, which has the variables of its block; `None` if no ticket is queued.
     pub fn take(&mut self) -> Result<Option<(Frozen, Job)>, NoMemory>
         ensures taken { IfOk result (λ r. TakesJob self.old.desk self.new.desk r) }
         ensures covered { IfOk result (λ r. IfSome r (λ j. Covers j.0 j.1.block.uses)) }
