@@ -21,7 +21,7 @@ from pathlib import Path
 from typing import Any
 
 from ._etcd import Access, Away, Etcd, delete, encoded, put, to_prefix
-from ._machine import Console, Done, Ended, Machine
+from ._machine import Console, Done, Ended, Lines, Machine
 from ._serve import STOPPING, Connection, Item, Limits, Server, declarations
 
 LEASE = 3  # seconds
@@ -31,6 +31,7 @@ AT_ONCE = 64  # entries that are read at a time
 LOOKING = 1.0  # seconds between two looks at the log, if no watch says that there is something new
 NEVER = ("--sync=none", "--max-events=1048575", "--checkpoint-every=1048576")  # no checkpoint comes but those of the log
 FORMAT = 1
+NO_CHECKPOINT = [b"refused NoCheckpoint"]
 
 log = logging.getLogger("stmdesk.server")
 
@@ -41,6 +42,26 @@ class Lost(Exception):
 
 class Differs(Exception):
     """This replica's desk answered otherwise than that of the leader, or it doesn't have the program with which the log goes on."""
+
+
+class NoCheckpoint(Ended):
+    """The disk of this replica refuses a new file for its desk."""
+
+
+class DeskOnFile(Console):
+    """The program on a file of this replica. Its answers are a function of the lines but for one, which depends on the disk of this machine
+    alone. So nobody sees that one: the replica ends, and the others go on."""
+
+    is_refused = False
+
+    async def run(self, lines: Sequence[bytes]) -> list[Lines]:
+        """Raises `NoCheckpoint` too, from the first refusal on."""
+        if not self.is_refused:
+            answers = await super().run(lines)
+            self.is_refused = NO_CHECKPOINT in answers
+            if not self.is_refused:
+                return answers
+        raise NoCheckpoint
 
 
 class Replica(Server):
@@ -122,7 +143,7 @@ class Replica(Server):
             raise Differs(f"the log goes on with {self.version}, which isn't here: give that program")
         file = self.folder / f"desk-{table['n']}"
         file.write_bytes(text)
-        console = await Console(self.versions[self.version], [f"--journal={file}", *NEVER]).start()
+        console = await DeskOnFile(self.versions[self.version], [f"--journal={file}", *NEVER]).start()
         machine = await Machine(console).begin()
         if head:
             machine.load(table)
@@ -130,7 +151,7 @@ class Replica(Server):
         self.chain_before = bytes.fromhex(table["before"])
 
     async def checkpoint(self, number: int, program: str) -> bytes | None:
-        """Begins again from the text. Returns the snapshot, or None if the program refuses a checkpoint."""
+        """Begins again from the text. Returns the snapshot, or None if the program refuses a checkpoint. Raises `NoCheckpoint`."""
         machine = self.machine
         before, answer, text = await machine.console.run([b"history", b"checkpoint", b"history"])
         if answer[0].startswith(b"refused"):  # TicketsFull, as on each replica; or declarations that haven't ended

@@ -26,7 +26,7 @@ from ._commands import decimal
 from ._etcd import Access, context_of
 from ._machine import WAITING, Ended
 from ._program import check_built, find_program, raise_stack_limit
-from ._replica import EVERY, LEASE, Differs, Replica
+from ._replica import EVERY, LEASE, Differs, NoCheckpoint, Replica
 from ._serve import Limits, Server
 from ._web import Web, host_and_port
 
@@ -254,6 +254,9 @@ def main(arguments: Sequence[str] | None = None) -> int:
             if not shutil.which(it):
                 raise FileNotFoundError(errno.ENOENT, "no such program", it)
         asyncio.run(serve(words, program))
+    except NoCheckpoint:
+        log.error("no checkpoint can be made in %s, so this replica stops; the others go on", words.folder)
+        return 1
     except Ended:
         log.error("the program has ended, and the server with it")
         return 1
