@@ -211,6 +211,9 @@ class Exploration:
             raise BadAnswer("explore", printed)
         return steps, [*_STORE.findall(printed)][-1]
 
+    def _asked_for_progress(self) -> bool:
+        return "--progress" in self._by if isinstance(self._by, list) else self._by[4]
+
     def _more(self, what: Literal["history", "trace"]) -> str:
         """Explores once more, and returns what is printed with this option."""
         status, printed, said = _explored(self._by, self.script, what)

@@ -107,6 +107,10 @@ def report(found: Exploration) -> str:
 def _counts(found: Exploration, script: _Script) -> list[str]:
     states = f"{found.states} {'state' if found.states == 1 else 'states'}"
     lines = [f"  {states}, {found.ended} of them with every client at its end"]
+    if any(script.parts(it)[0] == "eventually" for it in range(len(script.lines))):
+        lines.append("  each goal can still be reached from each state; an unfair or unlucky order may never reach it")
+    if found._asked_for_progress():
+        lines.append("  each client can still go on from each state where it isn't at its end; an unfair or unlucky order may never let it")
     for store in found.stores:
         lines += _variables("at an end:", {it.variable.number: _shown(it.value) for it in store}, set(), script)
     if found.ended > len(found.stores):

@@ -171,6 +171,18 @@ class Reports(OnProgram):
         self.assertTrue(self.report(many).endswith("  .. and 2 more\n"))
         self.assertEqual(self.report("client"), "right: no order of the steps leads to a fault\n  1 state, 1 of them with every client at its end\n")
 
+    def test_right_says_what_it_does_not_say(self):
+        """The first client can overtake the second for ever: what is looked for can happen, and nothing says that it will."""
+        goal = "eventually do { a <- readTVar x; return (a == 2) }\n"
+        turns = "client\nsubmit writeTVar x 1\nfinish 1\nrepeat\nclient\nsubmit writeTVar x 2\nfinish 1\nrepeat\n"
+        right = ["right: no order of the steps leads to a fault", "  3 states, 0 of them with every client at its end"]
+        reached = "  each goal can still be reached from each state; an unfair or unlucky order may never reach it"
+        goes_on = "  each client can still go on from each state where it isn't at its end; an unfair or unlucky order may never let it"
+        for has_goal in (False, True):
+            for progress in (False, True):
+                script = "tvar x : Int = 0\n" + goal * has_goal + turns
+                self.assert_report(script, *right, *[reached] * has_goal, *[goes_on] * progress, progress=progress)
+
     def test_the_block_of_a_step(self):
         """That of its section, of however many blocks it has."""
         script = "tvar x : Int = 0\nclient\nsubmit return 1\nsubmit writeTVar x 1\nfinish 2\nclient\nsubmit return 2\n"
