@@ -71,7 +71,7 @@ class LineWarning:
 @dataclass(frozen=True)
 class TraceStep:
     """What a step of the order that leads to a fault did: its number, counted from 1, its client, the line of the step, and as `text` the
-    rest of the line that `explore --trace` prints (docs/EXPLORE.md, "Output"), such as the block and what it wrote.
+    rest of the line that `explore --trace` prints (docs/EXPLORE_REFERENCE.md, "Output"), such as the block and what it wrote.
 
     >>> explore("tvar x : Int = 0\\nclient\\nsubmit writeTVar x 5\\nfinish 1\\nsubmit retry\\nfinish 2").trace()
     [TraceStep(number=1, client=0, line=4, text='writeTVar x 5 writes #0=5')]
@@ -104,7 +104,7 @@ class Exploration:
     After a fault `order` are the clients in the order of their steps that leads there, `choices` the line and the value of each `choose`
     of this order, in their turn, and `clients` where each client is that isn't at its end. Else `order` is None, and the others are
     empty. No shorter order leads to a fault, unless more than `max_states` states can be reached. If the outcome is "right", `warnings`
-    are the lines that may be mistakes (docs/EXPLORE.md, "Output").
+    are the lines that may be mistakes (docs/EXPLORE_REFERENCE.md, "Output").
 
     >>> found = explore('''
     ...     tvar x : Int = 0
