@@ -26,15 +26,15 @@ use Rattle.stm_paper_laws.proofs.LeadToRun.{Leads, leads}
 use Rattle.stm_paper_laws.proofs.StoreNames.{numbered_heap, numbered_types, by_store, begins, ends}
 use Rattle.stm_paper_laws.proofs.PaperLaws.{reached_is_run}
 
-some_type : (cells : List (Ty × Value)) (k : Changes) (r : ActionType) (v : Value) → OfType (kinds_of cells) k r v → (t : Ty) × (type_of (kinds_of cells) k v ≡ Some t)
+pub some_type : (cells : List (Ty × Value)) (k : Changes) (r : ActionType) (v : Value) → OfType (kinds_of cells) k r v → (t : Ty) × (type_of (kinds_of cells) k v ≡ Some t)
 some_type cells k (Gives t) v p = (t, p)
 some_type cells k Any v p = absurd p
 
-fits : (cells : List (Ty × Value)) (k : Changes) (r : ActionType) (v : Value) → OfType (kinds_of cells) k r v → WellTyped (kinds_of cells) (cell_value cells) k → Fits cells (Commits k.writes k.news v)
+pub fits : (cells : List (Ty × Value)) (k : Changes) (r : ActionType) (v : Value) → OfType (kinds_of cells) k r v → WellTyped (kinds_of cells) (cell_value cells) k → Fits cells (Commits k.writes k.news v)
 unfolding Fits
 fits cells k r v p w = record { rising = w.rising; writes = w.writes; news = w.news; result = some_type cells k r v p }
 
-start_heap : (store : List Cell) (s : Ref) → store_heap store s ≡ heap_of (cell_value (plains store)) no_changes s
+pub start_heap : (store : List Cell) (s : Ref) → store_heap store s ≡ heap_of (cell_value (plains store)) no_changes s
 start_heap store (Old i) = refl
 start_heap store (New k) = refl
 

@@ -18,3 +18,6 @@ pub mod PaperLaws
 pub mod AtomicLaws
 pub mod HistoryLaws
 pub mod HistoryTurns
+-- A run of blocks by `atomic` as a history.
+pub mod StepsBack
+pub mod RunHistories

@@ -14,8 +14,8 @@ use Rattle.stm_terms.specs.Ast.{Term, lit, local, global, bin, Act, return, read
 use Rattle.stm_terms.specs.Value.{Answer, fits_i64, same_ref, same_value, decides, apply_op, with_value, value}
 use Rattle.stm_paper_laws.specs.Evaluation.{applied_term, applied_to, ◌⇓◌, ◌⇑◌, Needs, of_return, of_read, of_write, of_written, of_make, of_if, of_let}
 use Rattle.stm_paper_laws.specs.Transitions.{Context, □, ◌>>=◌, ◌>>◌, ◌⟨◌⟩, ◌⟶◌, BIND, THROW, RETRY, BIND', THROW', RETRY', IF_TRUE, IF_FALSE, LET, FAULT}
-use Rattle.stm_paper_laws.specs.Laws.{Naming, IsSame, same_int, same_truth, same_unit, same_var}
-use Rattle.stm_paper_laws.proofs.Names.{Grows, same_grows}
+use Rattle.stm_paper_laws.specs.Laws.{Naming, IsSame, same_int, same_truth, same_unit, same_var, NamesGrow}
+use Rattle.stm_paper_laws.proofs.Names.{same_grows}
 
 -- ---- terms and actions that are the same but for names
 pub data LikeTerm (f : Naming) : Term → Term → Type 0 where
@@ -61,13 +61,13 @@ unplug (T >> N) (like_seq {b} p q) =
     let u = unplug T p in
     (u.0 >> b, u.1, ap (λ c. seq c b) u.2, like_before u.3 q, u.4)
 
-pub term_grows : {f g : Naming} → Grows f g → {d e : Term} → LikeTerm f d e → LikeTerm g d e
+pub term_grows : {f g : Naming} → NamesGrow f g → {d e : Term} → LikeTerm f d e → LikeTerm g d e
 term_grows m (like_lit s) = like_lit (same_grows m s)
 term_grows m like_local = like_local
 term_grows m (like_global {i} p) = like_global (m (Old i) (Old i) p)
 term_grows m (like_bin p q) = like_bin (term_grows m p) (term_grows m q)
 
-pub like_grows : {f g : Naming} → Grows f g → {a M : Act} → Like f a M → Like g a M
+pub like_grows : {f g : Naming} → NamesGrow f g → {a M : Act} → Like f a M → Like g a M
 like_grows m (like_return p) = like_return (term_grows m p)
 like_grows m (like_read p) = like_read (term_grows m p)
 like_grows m (like_write p q) = like_write (term_grows m p) (term_grows m q)
@@ -81,7 +81,7 @@ like_grows m (like_let p r) = like_let (term_grows m p) (like_grows m r)
 like_grows m (like_seq q r) = like_seq (like_grows m q) (like_grows m r)
 like_grows m (like_catch q r) = like_catch (like_grows m q) (like_grows m r)
 
-pub context_grows : {f g : Naming} → Grows f g → {S T : Context} → LikeContext f S T → LikeContext g S T
+pub context_grows : {f g : Naming} → NamesGrow f g → {S T : Context} → LikeContext f S T → LikeContext g S T
 context_grows m like_hole = like_hole
 context_grows m (like_binding s b) = like_binding (context_grows m s) (like_grows m b)
 context_grows m (like_before s b) = like_before (context_grows m s) (like_grows m b)

@@ -15,10 +15,10 @@ use Rattle.stm_terms.specs.Changes.{Variables, Changes, made}
 use Rattle.stm_terms.specs.Semantics.{Returned, Threw, on_answer, catch_run, else_run, returned_value, returned_unit, read_at, write_at, run}
 use Rattle.stm_paper_laws.specs.Evaluation.{applied_to, ◌⇓◌, raised, Raises}
 use Rattle.stm_paper_laws.specs.Transitions.{Heap, Allocations, Configuration, updated, Context, ◌⟨◌⟩, ◌⟶◌, ◌⇒◌, READ, WRITE, NEW, AADMIN, OR1, OR2, OR3, XSTM1, XSTM2, XSTM2', XSTM3, ◌⇒*◌, none, more}
-use Rattle.stm_paper_laws.specs.Laws.{heap_of, Naming, IsSame, same_int, same_truth, same_unit, same_var}
+use Rattle.stm_paper_laws.specs.Laws.{heap_of, Naming, IsSame, same_int, same_truth, same_unit, same_var, NamesGrow}
 use Rattle.stm_paper_laws.proofs.Substitution.{run_applied}
 use Rattle.stm_paper_laws.proofs.Heaps.{made_types_of, written_there, made_heap, made_types, next_is_free}
-use Rattle.stm_paper_laws.proofs.Names.{IsRenamed, same_some, Grows, tests_agree, write_renamed, with_name, self_named, name_grows, new_renamed}
+use Rattle.stm_paper_laws.proofs.Names.{IsRenamed, same_some, tests_agree, write_renamed, with_name, self_named, name_grows, new_renamed}
 use Rattle.stm_paper_laws.proofs.LikeRuns.{LikeTerm, like_lit, Like, like_return, like_read, like_write, like_make, like_retry, like_throw, like_or, like_catch, plugged, unplug, context_grows, like_applied, LikeAnswer, like_ok, like_err, like_none, value_like, value_back, admin_back}
 use Rattle.stm_paper_laws.proofs.Outcomes.{return_stays, throw_stays, return_uncaught, never_throws, raised_throws, admin_keeps, in_context}
 
@@ -43,10 +43,10 @@ raised_like (like_ok (same_var p)) = refl
 raised_like like_err = refl
 raised_like like_none = refl
 
-grows_self : (f : Naming) → Grows f f
+grows_self : (f : Naming) → NamesGrow f f
 grows_self f r s p = p
 
-joined_grows : {f g h : Naming} → Grows f g → Grows g h → Grows f h
+joined_grows : {f g h : Naming} → NamesGrow f g → NamesGrow g h → NamesGrow f h
 joined_grows m n r s p = n r s (m r s p)
 
 length_map : {A B : Type 0} (f : A → B) (xs : List A) → length (map f xs) ≡ length xs
@@ -60,7 +60,7 @@ module _ (under : Variables) where
 
   -- from this view the action and another one end alike, the other one in a view that fits the state
   abbrev pub Goes : Naming → Changes → Act → Configuration → Type 0
-  Goes f h a y = (g : Naming) × (k : Changes) × (b : Act) × Grows f g × Like g b y.0 × Fits g k y × (run under a [] h ≡ run under b [] k)
+  Goes f h a y = (g : Naming) × (k : Changes) × (b : Act) × NamesGrow f g × Like g b y.0 × Fits g k y × (run under a [] h ≡ run under b [] k)
 
   goes_in : (f : Naming) (h : Changes) {a M N : Act} {Θ : Heap} {Δ : Allocations} (T : Context) → Like f a (T ⟨ M ⟩)
       → ((b : Act) → Like f b M → Goes f h b (N, Θ, Δ)) → Goes f h a (T ⟨ N ⟩, Θ, Δ)

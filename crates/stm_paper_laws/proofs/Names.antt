@@ -8,7 +8,7 @@ use Rattle.stm_terms.specs.declared.values.Ref.TheVariants.{Old, New}
 use Rattle.stm_terms.specs.declared.values.Value.{Value}
 use Rattle.stm_terms.specs.Value.{same_ref}
 use Rattle.stm_paper_laws.specs.Transitions.{Heap, Allocations, updated}
-use Rattle.stm_paper_laws.specs.Laws.{numbered_cells, Naming, IsSame, same_int, same_truth, same_unit, same_var, HoldSame, AreSameHeaps, AreSameCells}
+use Rattle.stm_paper_laws.specs.Laws.{numbered_cells, Naming, IsSame, same_int, same_truth, same_unit, same_var, HoldSame, AreSameHeaps, AreSameCells, NamesGrow}
 
 -- ---- tests of names
 pub same_some : {A : Type 0} (x y : A) → Some x ≡ Some y → x ≡ y
@@ -32,7 +32,7 @@ one_on n m = omega arith
 from_zero : (n : ℕ) → n ≡ 0 + n
 from_zero n = omega arith
 
-eqb_self : (n : ℕ) → nat_eq n n ≡ true
+pub eqb_self : (n : ℕ) → nat_eq n n ≡ true
 eqb_self zero = refl
 eqb_self (suc n) = eqb-suc-suc n n ∙ eqb_self n
 
@@ -91,10 +91,7 @@ pub same_cells : {called : Naming} {here : Heap} {Θ : Heap} {Δ : Allocations} 
 same_cells {called} {Δ} cells n = cells_from called cells 0 Δ (λ k. ap (λ j. called (New j)) (sym (from_zero k)) ∙ n.news k) n.types_are
 
 -- ---- more names
-abbrev pub Grows : Naming → Naming → Type 0
-Grows called more = (r s : Ref) → called r ≡ Some s → more r ≡ Some s
-
-pub same_grows : {f g : Naming} → Grows f g → {v w : Value} → IsSame f v w → IsSame g v w
+pub same_grows : {f g : Naming} → NamesGrow f g → {v w : Value} → IsSame f v w → IsSame g v w
 same_grows m same_int = same_int
 same_grows m same_truth = same_truth
 same_grows m same_unit = same_unit
@@ -152,7 +149,7 @@ module _ {called : Naming} {here : Heap} {types : List Ty} {Θ : Heap} {Δ : All
   nameless : (q : Ref) → called (New k) ≡ Some q → ⊥
   nameless q e = let h = n.holds (New k) q e in nothing (here (New k)) h.0 free h.2
 
-  pub name_grows : Grows called (with_name called (New k) s)
+  pub name_grows : NamesGrow called (with_name called (New k) s)
   name_grows q t e = ⊎_elim
       (λ yes. absurd (nameless t (ap called (ref_true (New k) q yes) ∙ e)))
       (λ other. is_else (same_ref (New k) q) (Some s) (called q) other ∙ e)

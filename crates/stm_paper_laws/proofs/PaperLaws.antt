@@ -11,8 +11,8 @@ use Rattle.stm_store.specs.Cells.{kinds_of}
 use Rattle.stm_check.proofs.TypingLaws.{never_stuck}
 use Rattle.stm_check.proofs.Weakening.{store_fine}
 use Rattle.stm_paper_laws.specs.Transitions.{Configuration}
-use Rattle.stm_paper_laws.specs.Laws.{heap_of, cells_of, block_start, Ending, Returns, Throws, Retries, Ends, ending_of, Naming, KeepsNames, AreSameEnds, IsEndOf, IsTypedOn, block_run, RunIsReached, ReachedIsRun, EndsOnce, EndsAreSame}
-use Rattle.stm_paper_laws.proofs.Names.{same_some, Grows, same_heaps, same_cells, tests_agree}
+use Rattle.stm_paper_laws.specs.Laws.{heap_of, cells_of, block_start, Ending, Returns, Throws, Retries, Ends, ending_of, Naming, KeepsNames, AreSameEnds, IsEndOf, IsTypedOn, block_run, RunIsReached, ReachedIsRun, EndsOnce, EndsAreSame, NamesGrow}
+use Rattle.stm_paper_laws.proofs.Names.{same_some, same_heaps, same_cells, tests_agree}
 use Rattle.stm_paper_laws.proofs.LikeRuns.{value_back}
 use Rattle.stm_paper_laws.proofs.LeadToRun.{Leads, leads, by_numbers}
 use Rattle.stm_paper_laws.proofs.NamedTransitions.{return_back, throw_back, retry_back, threw, steps_go}
@@ -30,7 +30,7 @@ run_is_reached cells block end t e =
     ends_as (kinds_of cells) (cell_value cells) (block_start cells block) (block_run cells block) end e
     (leads (by_numbers (kinds_of cells) (cell_value cells)) block [] [] no_changes t.typed.0 (store_fine cells t.store) tt t.typed.1)
 
-keeps_names : (cells : List (Ty × Value)) (g : Naming) → Grows (own_names cells) g → KeepsNames (cell_value cells) g
+keeps_names : (cells : List (Ty × Value)) (g : Naming) → NamesGrow (own_names cells) g → KeepsNames (cell_value cells) g
 keeps_names cells g m i v e = m (Old i) (Old i) (keeps_own cells i v e)
 
 pub reached_is_run : ReachedIsRun

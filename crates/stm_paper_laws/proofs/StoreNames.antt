@@ -17,11 +17,11 @@ use Rattle.stm_store.specs.declared.cell.Cell.{Cell}
 use Rattle.stm_store.specs.Cells.{plains, kinds_of, StoreIsTyped, renumbered_ref, renumbered, after_write, new_cell, applied, IsApplied}
 use Rattle.stm_check.proofs.ActionsSound.{mapped, if_some}
 use Rattle.stm_paper_laws.specs.Transitions.{Heap, Allocations, updated}
-use Rattle.stm_paper_laws.specs.Laws.{heap_of, Naming, IsSame, same_int, same_truth, same_unit, same_var}
+use Rattle.stm_paper_laws.specs.Laws.{heap_of, Naming, IsSame, same_int, same_truth, same_unit, same_var, NamesGrow}
 use Rattle.stm_paper_laws.specs.Atomic.{store_heap}
 use Rattle.stm_paper_laws.proofs.Substitution.{closed_term, value_closed}
 use Rattle.stm_paper_laws.proofs.Heaps.{made_types_of, written_there, made_heap, made_types, length_kinds, next_is_free}
-use Rattle.stm_paper_laws.proofs.Names.{same_some, same_bools, Grows}
+use Rattle.stm_paper_laws.proofs.Names.{same_some, same_bools}
 use Rattle.stm_paper_laws.proofs.LikeRuns.{LikeTerm, term_grows, term_applied, LikeAnswer, like_ok, like_err, like_none, value_like}
 use Rattle.stm_paper_laws.proofs.Starts.{own_names, term_self}
 use Rattle.stm_paper_laws.proofs.LeadToRun.{IsNamedHeap, renamed_answer}
@@ -48,14 +48,14 @@ past_test n k = grind (arith, nat_tests)
 back_again : (n k : ℕ) → n + k - n ≡ k
 back_again n k = omega arith
 
-there_again : (n j : ℕ) → n ≤ j → n + (j - n) ≡ j
+pub there_again : (n j : ℕ) → n ≤ j → n + (j - n) ≡ j
 there_again n j h = omega arith
 
 -- ---- the reference that a variable of the new store has in a view
-abbrev ref_at : ℕ → ℕ → Ref
+abbrev pub ref_at : ℕ → ℕ → Ref
 ref_at n j = if nat_lt j n then Old j else New (j - n)
 
-abbrev InRange : ℕ → Ref → Type 0
+abbrev pub InRange : ℕ → Ref → Type 0
 InRange n (Old i) = i < n
 InRange n (New k) = Unit {0}
 
@@ -71,10 +71,10 @@ test_at n j (New m) h =
       | false ↦ λ ge. let p : n ≤ j = ltb-false j n ge in same_tests (n + m) j m (j - n) (λ e. omega (arith, e, p)) (λ e. omega (arith, e, p))
     ] refl
 
-old_at : (n i : ℕ) → i < n → ref_at n i ≡ Old i
+pub old_at : (n i : ℕ) → i < n → ref_at n i ≡ Old i
 old_at n i h = ap (λ b. if b then Old i else New (i - n)) (below_test i n h)
 
-new_at : (n k : ℕ) → ref_at n (n + k) ≡ New k
+pub new_at : (n k : ℕ) → ref_at n (n + k) ≡ New k
 new_at n k = ap (λ b. if b then Old (n + k) else New (n + k - n)) (past_test n k) ∙ ap New (back_again n k)
 
 -- ---- the heap of a view, with the numbers of the store
@@ -167,7 +167,7 @@ like_closed no_values l = l
 like_closed (one_more_same p q) l = like_closed q (term_applied l p)
 
 -- ---- a store
-kind_below : (store : List Cell) (i : ℕ) (t : Ty) → kinds_of (plains store) i ≡ Some t → i < length store
+pub kind_below : (store : List Cell) (i : ℕ) (t : Ty) → kinds_of (plains store) i ≡ Some t → i < length store
 kind_below [] i t e = absurd (cc)
 kind_below (c ∷ cs) zero t e = omega arith
 kind_below (c ∷ cs) (suc i) t e = let p = kind_below cs i t e in omega (arith, p)
@@ -195,7 +195,7 @@ module _ (store : List Cell) where
   locals_same h [] (t ∷ ts) p = absurd p
   locals_same h (v ∷ vs) (t ∷ ts) p = one_more_same (typed_same h v t p.0) (locals_same h vs ts p.1)
 
-  own_grows : Grows (own_names (plains store)) (store_names (length store))
+  own_grows : NamesGrow (own_names (plains store)) (store_names (length store))
   own_grows (Old i) s e =
       let m = mapped (λ c. Old i) (slice_get (plains store) i) s e in
       in_range_called (length store) (Old i) (kind_below store i m.0.0 (ap (λ o. option_map (λ c. c.0) o) m.1)) ∙ ap Some m.2

@@ -84,6 +84,10 @@ AreSameCells called [] [] = Unit {0}
 AreSameCells called (c ∷ cs) (d ∷ ds) = (called c.0 ≡ Some d.0) × (c.1 ≡ d.1) × AreSameCells called cs ds
 AreSameCells called Δ Δ' = ⊥
 
+-- all names stay, and there may be more
+abbrev pub NamesGrow : Naming → Naming → Type 0
+NamesGrow called more = (r s : Ref) → called r ≡ Some s → more r ≡ Some s
+
 -- the variables of the store keep their names
 abbrev pub KeepsNames : Variables → Naming → Type 0
 KeepsNames under called = (i : ℕ) (v : Value) → under i ≡ Some v → called (Old i) ≡ Some (Old i)

@@ -1,6 +1,7 @@
 //! What the transitions of a block have to do with `run`, as laws of the definitions: the body of each function is empty.
 
 ghost use Rattle.stm_paper_laws.specs.Atomic.{VerdictsAreAtomic, AtomicIsRun};
+ghost use Rattle.stm_paper_laws.specs.AtomicRuns.{RunsAreHistories};
 ghost use Rattle.stm_paper_laws.specs.Histories.{FinishesAreAtomic, BlockedWait, HistoriesAreAtomic};
 ghost use Rattle.stm_paper_laws.specs.Laws.{RunIsReached, ReachedIsRun, EndsOnce, EndsAreSame};
 
@@ -48,4 +49,10 @@ pub fn blocked_wait()
 /// A legal history does to the store what its blocks do by `atomic`, one after another in the order in which they finish.
 pub fn histories_are_atomic()
     ensures { HistoriesAreAtomic }
+{}
+
+/// And what blocks do that run by `atomic`, one after another, a legal history does, whichever names the new cells get: it submits them and
+/// finishes them in their order, with the same results and the same stores.
+pub fn runs_are_histories()
+    ensures { RunsAreHistories }
 {}
