@@ -145,11 +145,12 @@ class Console:
 class Request:
     """A request that is under way or whose answer isn't acknowledged: the answer of each line, None while that isn't there."""
 
-    __slots__ = ("lost", "size", "slots")
+    __slots__ = ("is_over", "lost", "size", "slots")
 
     def __init__(self, slots: list[Lines | None], *, lost: bool = False) -> None:
         self.slots = slots
-        self.lost = lost  # whether the answer was too long to be kept
+        self.is_over = False  # whether the answer was given
+        self.lost = lost  # whether it was too long to be kept
         self.size = 0  # bytes of an answer that is kept
 
     def is_answered(self) -> bool:
@@ -508,8 +509,9 @@ class Machine:
         """Sends the answer to a request, if all its lines have one, and keeps it if it isn't too long."""
         session = self.sessions[name]
         request = session.requests[number]
-        if not request.is_answered():
+        if request.is_over or not request.is_answered():
             return
+        request.is_over = True
         self._tell(name, number)
         request.size = sum(len(it) + 1 for slot in request.slots for it in slot or ())
         if request.size > KEPT:
@@ -558,5 +560,6 @@ class Machine:
                 lines = [None if slot is None else [line.encode("latin-1") for line in slot] for slot in slots]
                 request = session.requests[int(number)] = Request(lines, lost=lost)
                 if request.is_answered():
+                    request.is_over = True
                     request.size = sum(len(line) + 1 for slot in lines for line in slot or ())
                 session.stored += request.size
