@@ -10,12 +10,14 @@ import asyncio
 import hashlib
 import json
 from collections import deque
-from collections.abc import Iterable, Sequence
+from collections.abc import Callable, Iterable, Sequence
 from contextlib import suppress
 from dataclasses import dataclass, field
 from typing import Any
 
 from ._numbers import Numbers, Range
+
+Lines = list[bytes]
 
 # Commands that change nothing, and those that may. A question that is the first command ends the declarations all the same.
 QUESTIONS = {
@@ -30,7 +32,9 @@ WAITS = {b"wait", b"waitas"}
 SUBMISSIONS = {b"submit", b"atomically", *WAITS}
 # How the last line of an answer of many lines begins.
 LAST = {b"store": b"cells ", b"show": b"waiting ", b"board": b"waiting ", b"events": b"events "}
-MARK = b"try return ()"  # a question whose answer begins with no brace: it ends a history
+MARK = b"try return ()"  # a question whose answer begins with no brace: it ends a history, so it is always answered
+# Questions whose answers grow with the desk.
+LONG = {b"history", b"declared", *LAST}
 NUMBER_OF_EVENTS = b"events 4294967295"
 
 LINE = 65_536  # bytes of a line
@@ -41,8 +45,10 @@ SESSIONS = 4096
 REQUESTS = 4096  # of one session that are under way
 KEPT = 1 << 18  # bytes of an answer that is kept until it is acknowledged; a longer one is given once
 STORED = 1 << 24  # bytes of all such answers of one session
+ANSWER = 1 << 23  # bytes of the answer to a request after which its further lines are refused
+PIECE = 1024  # cost of the lines of a request that are given to the program in one go; the last one may go beyond that
+FULL: Lines = [b"refused AnswersFull"]
 
-Lines = list[bytes]
 Done = tuple[str, int, "Lines | bytes"]  # the session, the number of its request, and the answer; bytes are the refusal of the whole
 
 
@@ -72,6 +78,22 @@ def weight(lines: Iterable[bytes]) -> int:
         plain = it.isascii() and it.decode().isprintable()
         size += 8 + (len(it) + it.count(b'"') + it.count(b"\\") if plain else 6 * len(it))
     return size
+
+
+def cost(its: bytes | None) -> int:
+    """How much of a piece a line with this command takes. An answer that grows with the desk is looked at before the next line is given;
+    64 other questions have some 6 MB at most, as the program's lines and those of blocks are bounded."""
+    return PIECE if its in LONG else PIECE // 64 if its in QUESTIONS else 1
+
+
+def asked(lines: Iterable[bytes]) -> int:
+    """The cost of the questions in a request."""
+    return sum(cost(its) for its in map(word, lines) if its in QUESTIONS)
+
+
+def size(answer: Lines) -> int:
+    """Its bytes, with line feeds."""
+    return sum(map(len, answer)) + len(answer)
 
 
 class Console:
@@ -145,16 +167,23 @@ class Console:
 class Request:
     """A request that is under way or whose answer isn't acknowledged: the answer of each line, None while that isn't there."""
 
-    __slots__ = ("is_over", "lost", "size", "slots")
+    __slots__ = ("is_over", "left", "lost", "made", "size", "slots")
 
     def __init__(self, slots: list[Lines | None], *, lost: bool = False) -> None:
         self.slots = slots
+        self.left = slots.count(None)
         self.is_over = False  # whether the answer was given
         self.lost = lost  # whether it was too long to be kept
+        self.made = 0  # bytes of the program's answers to its lines so far
         self.size = 0  # bytes of an answer that is kept
 
+    def fill(self, place: int, answer: Lines) -> None:
+        if self.slots[place] is None:
+            self.slots[place] = answer
+            self.left -= 1
+
     def is_answered(self) -> bool:
-        return all(it is not None for it in self.slots)
+        return not self.left
 
 
 @dataclass
@@ -184,8 +213,8 @@ class Given:
 class Machine:
     """A desk with the sessions that use it, and the blocks that wait for one of them."""
 
-    def __init__(self, console: Console, max_waiting: int = WAITING) -> None:
-        self.console, self.max_waiting = console, max_waiting
+    def __init__(self, console: Console, max_waiting: int = WAITING, max_answer: int = ANSWER) -> None:
+        self.console, self.max_waiting, self.max_answer = console, max_waiting, max_answer
         self.next: int | None = 1  # the next ticket, if that is known
         self.is_declaring, self.declared_size = True, 0
         self.declared: Lines = []  # `#0 x : Int`
@@ -198,6 +227,7 @@ class Machine:
         self.owned: dict[int, str] = {}  # by ticket: the session with which a submitted block ends
         self.unwanted: set[int] = set()  # tickets to cancel
         self.chain = b"\0" * 32  # the SHA-256 of all answers so far
+        self._digest: Any = None  # of the answers since then
         self.is_full = False  # whether rounds had to stop, since the history is full
         self.done: list[Done] = []
         # What only reports use.
@@ -227,10 +257,29 @@ class Machine:
         """Whether a request may change something, be it that it ends the declarations. A word that isn't known here counts as a change."""
         return self.is_declaring or any(its is not None and its not in QUESTIONS for its in map(word, lines))
 
-    async def ask(self, lines: Sequence[bytes]) -> list[Lines]:
-        """The answers to questions, once the declarations have ended."""
-        asked = [it for it in lines if len(it) <= LINE and word(it) != b"declared"]
-        answers = iter(await self.console.run(asked))
+    async def ask(self, lines: Sequence[bytes], is_wanted: Callable[[], bool] = lambda: True) -> list[Lines]:
+        """The answers to questions, once the declarations have ended. Once they have too many bytes the rest is refused. If they aren't
+        wanted any more it ends, with the answers so far."""
+        found: list[Lines] = []
+        made = 0
+        while len(found) < len(lines) and is_wanted():
+            if made > self.max_answer:
+                rest = lines[len(found) :]
+                marks = iter(await self._asked([it for it in rest if it == MARK]))
+                return [*found, *(next(marks) if it == MARK else FULL for it in rest)]
+            few: Lines = []
+            cost_of_few = 0
+            while len(found) + len(few) < len(lines) and cost_of_few < PIECE:
+                few.append(lines[len(found) + len(few)])
+                cost_of_few += cost(word(few[-1]))
+            answers = await self._asked(few)
+            made += sum(map(size, answers))
+            found += answers
+        return found
+
+    async def _asked(self, lines: Lines) -> list[Lines]:
+        given = [it for it in lines if len(it) <= LINE and word(it) != b"declared"]
+        answers = iter(await self.console.run(given))
         return [
             [b"refused LineTooLong"] if len(it) > LINE else self._declarations(it, False) if word(it) == b"declared" else next(answers)
             for it in lines
@@ -317,19 +366,28 @@ class Machine:
         elif session.stored > STORED:
             self.done.append((name, number, b"AnswersFull"))
         else:
-            session.requests[number] = Request([[] if word(it) is None else None for it in lines])
+            request = session.requests[number] = Request([[] if word(it) is None else None for it in lines])
+            given = 0  # the cost of its lines that the program hasn't answered
             for place, line in enumerate(lines):
-                if word(line) in SUBMISSIONS and len(self.waiting) + self._submissions >= self.max_waiting:
+                its = word(line)
+                if its is None:
+                    continue
+                if given >= PIECE:
+                    await self._give(script)
+                    given = 0
+                if request.made > self.max_answer and line != MARK:
+                    request.fill(place, FULL)
+                    continue
+                if its in SUBMISSIONS and len(self.waiting) + self._submissions >= self.max_waiting:
                     await self._flush(script)  # some of the blocks in the script may end at once
-                self._line(line, (name, number, place), session.requests[number].slots, script)
-                if word(line) == b"declare" and self.is_declaring:
+                self._line(line, (name, number, place), request, script)
+                given += cost(its)
+                if its == b"declare" and self.is_declaring:
                     await self._flush(script)  # it ends the declarations, unless the program has no such command
             self._answered(name, number)
 
-    def _line(self, line: bytes, where: Where, slots: list[Lines | None], script: list[Given]) -> None:
+    def _line(self, line: bytes, where: Where, request: Request, script: list[Given]) -> None:
         its = word(line)
-        if its is None:
-            return
         label = b""
         if its == b"wait":
             line = b"submit " + line.strip(b"\t\r ")[5:]
@@ -338,25 +396,25 @@ class Machine:
             label = rest.replace(b"\t", b" ").replace(b"\r", b" ").split(b" ", 1)[0]
             its, line = b"wait", b"submit " + rest[len(label) :].lstrip(b"\t\r ")
             if not is_label(label):
-                slots[where[2]] = [b"refused Argument"]
+                request.fill(where[2], [b"refused Argument"])
                 return
         if len(line) > LINE:
-            slots[where[2]] = [b"refused LineTooLong"]
+            request.fill(where[2], [b"refused LineTooLong"])
             return
         if its in (b"settle", b"drain") and (self.waits or self._new_waits):
-            slots[where[2]] = [b"refused Waits"]  # it wouldn't say what it finishes
+            request.fill(where[2], [b"refused Waits"])  # it wouldn't say what it finishes
             return
         if its in SUBMISSIONS and len(self.waiting) + self._submissions >= self.max_waiting:
-            slots[where[2]] = [b"refused WaitingFull"]
+            request.fill(where[2], [b"refused WaitingFull"])
             return
         if its == b"tvar" and self.is_declaring:
             self.declared_size += len(line)
             if self.declared_size > DECLARED:
-                slots[where[2]] = [b"refused TableFull"]
+                request.fill(where[2], [b"refused TableFull"])
                 return
         elif its in QUESTIONS and its != b"declared" or its in CHANGES and its not in (b"tvar", b"declare"):
             self.is_declaring = False
-        kind = {b"wait": "wait", b"declared": "declared"}.get(its, "line")
+        kind = {b"wait": "wait", b"declared": "declared"}.get(its or b"", "line")
         script.append(Given(line, kind, where, int(kind == "declared" and self.is_declaring), label))
         if its == b"wait" and self.next is not None:
             # At most this ticket. If a submission before it is refused, this one isn't given yet, and the rounds try the right one.
@@ -367,10 +425,17 @@ class Machine:
 
     async def _flush(self, script: list[Given]) -> None:
         """Gives the lines to the program, looks at the answers, and clears the script."""
+        await self._give(script)
+        if self._digest:
+            self.chain, self._digest = self._digest.digest(), None
+
+    async def _give(self, script: list[Given]) -> None:
+        """The same with a part of the lines, so that the chain doesn't depend on what the parts are."""
         if not script:
             return
         answers = await self.console.run([b"" if it.kind == "declared" else it.line for it in script])
-        digest, was_settled = hashlib.sha256(self.chain), False
+        digest = self._digest = self._digest or hashlib.sha256(self.chain)
+        was_settled = False
         for given, answer in zip(script, answers):
             if given.kind == "declared":
                 answer = self._declarations(given.line, bool(given.ticket))
@@ -385,7 +450,6 @@ class Machine:
             self.waiting = {it: self.waiting.get(it, b"") for it in (int(line.split(b" ", 1)[0]) for line in shown[:-1])}
             self.owned = {it: owner for it, owner in self.owned.items() if it in self.waiting}
             self.labels = {it: label for it, label in self.labels.items() if it in self.waiting}
-        self.chain = digest.digest()
         self._submissions = self._new_waits = 0
         script.clear()
 
@@ -502,7 +566,8 @@ class Machine:
         session = self.sessions.get(where[0]) if where else None
         request = session.requests.get(where[1]) if session and where else None
         if where and request and request.slots[where[2]] is None:
-            request.slots[where[2]] = answer
+            request.fill(where[2], answer)
+            request.made += size(answer)
             self._answered(where[0], where[1])
 
     def _answered(self, name: str, number: int) -> None:
@@ -513,7 +578,7 @@ class Machine:
             return
         request.is_over = True
         self._tell(name, number)
-        request.size = sum(len(it) + 1 for slot in request.slots for it in slot or ())
+        request.size = sum(size(it) for it in request.slots if it)
         if request.size > KEPT:
             request.slots, request.lost, request.size = [], True, 0
         session.stored += request.size
@@ -561,5 +626,5 @@ class Machine:
                 request = session.requests[int(number)] = Request(lines, lost=lost)
                 if request.is_answered():
                     request.is_over = True
-                    request.size = sum(len(line) + 1 for slot in lines for line in slot or ())
+                    request.size = sum(size(it) for it in lines if it)
                 session.stored += request.size

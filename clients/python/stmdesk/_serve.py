@@ -7,6 +7,7 @@ import errno
 import fcntl
 import logging
 import os
+import select
 import shutil
 import socket
 import stat
@@ -18,13 +19,16 @@ from contextlib import suppress
 from dataclasses import dataclass
 from typing import Any
 
-from ._machine import LINE, REQUEST, REQUESTS, WAITING, WAITS, Console, Done, Ended, Lines, Machine, weight, word
+from ._machine import (
+    ANSWER, LINE, PIECE, REQUEST, REQUESTS, WAITING, WAITS, Console, Done, Ended, Lines, Machine, asked, cost, size, weight, word,
+)  # fmt: skip
 from ._numbers import Numbers
 from ._program import is_locked
 
 GROUP = 1 << 18  # weight of a group, after which no further request is taken into it
-AHEAD = 1 << 16  # lines of a plain connection that are read and not given
+AHEAD = 1 << 21  # weight of the lines of one connection that are read and in no group; then nothing more of it is read
 ACKS = 5000  # ranges of numbers that one request acknowledges at most
+PAUSE = 1.0  # seconds between two looks whether the peer of a connection of which nothing is read is there
 STOPPING = 2.0  # seconds that connections have to read their last answers
 PATH_LENGTH = 107  # bytes of the path of a unix socket
 FIRST_TRIES = (0.1, 0.2, 0.5, 1.0, 2.0)  # seconds between tries to start on a journal that is in use
@@ -40,6 +44,7 @@ class Limits:
     request: int = REQUEST  # weight
     unread: int = 8 << 20  # bytes of answers that a peer hasn't read when another one comes
     waiting: int = WAITING
+    answer: int = ANSWER  # bytes of the answer to a request after which its further lines are refused
 
 
 class Connection:
@@ -51,11 +56,12 @@ class Connection:
         self.is_framed = self.is_begun = self.is_busy = self.is_ended = self.is_cut = False
         self.is_once = False  # whether the session ends with this connection
         self.is_leaving = False  # whether the session was ended
-        self.lines: deque[bytes] = deque()  # of a plain connection, that weren't given yet
+        self.lines: deque[tuple[bytes, int]] = deque()  # of a plain connection, that weren't given yet, with their weights
         self.number = 0  # of a plain connection's request
         self.head: tuple[int, Numbers] | None = None  # of a request whose lines are being read
         self.body: Lines = []
         self.body_weight = self.body_left = 0  # what its lines weigh, and how many are to come
+        self.ahead = 0  # what all lines weigh that are in no group
         self.flight: set[int] = set()  # requests that aren't answered
         self.held = Numbers()  # acknowledged by requests that weren't logged
         self.room = asyncio.Event()
@@ -76,9 +82,13 @@ class Connection:
                     return
             if len(rest) > LINE + 1:
                 rest, is_long = b"", True
-            while len(self.lines) > AHEAD and not self.is_cut:  # then nothing more is read of this peer
+            while self.ahead > AHEAD and not self.is_gone():
                 self.room.clear()
-                await self.room.wait()
+                with suppress(asyncio.TimeoutError):
+                    await asyncio.wait_for(self.room.wait(), PAUSE)
+                if is_left(self.writer):
+                    self.cut()
+                    return
         if is_long or len(rest) > LINE:
             rest = b"x" * (LINE + 1)
         if rest and not self.is_framed:
@@ -97,7 +107,8 @@ class Connection:
         elif not self.is_framed:
             if not self.is_begun:
                 self.join(self.session, ["open", *(["keep"] if self.server.keep else [])])
-            self.lines.append(line)
+            self.lines.append((line, weight([line])))
+            self.ahead += self.lines[-1][1]
             self.pump()
         elif self.head:
             self.body_weight += weight([line])
@@ -153,22 +164,41 @@ class Connection:
         self.server.put([words[0], name, *words[1:]])
 
     def pump(self) -> None:
-        """Of a plain connection one request is under way; a `wait` is one by itself. The end of the input cancels it if it can't finish."""
+        """Of a plain connection one request is under way; a `wait` is one by itself. The end of the input cancels it if it can't finish.
+        Questions in it are one piece at most, so that requests of others come in between."""
         if self.is_framed or not self.is_begun or self.is_cut:
             return
-        if not self.is_busy and self.lines:
-            lines = [self.lines.popleft()]
-            size = weight(lines)
-            is_wait = word(lines[0]) in WAITS
-            while self.lines and not is_wait and (size := size + weight([self.lines[0]])) <= self.server.limits.request:
-                if word(self.lines[0]) in WAITS:
-                    break
-                lines.append(self.lines.popleft())
-            self.is_busy, self.number = True, self.number + 1
-            self.request(self.number, Numbers([[1, self.number - 1]] if self.number > 1 else ()), lines, weight(lines))
+        if self.is_gone():  # nobody would get the answers
+            self.lines.clear()
             self.room.set()
+        if not self.is_busy and self.lines:
+            lines: Lines = []
+            weighs = questions = 0
+            while self.lines and questions < PIECE:
+                line, more = self.lines[0]
+                if lines and (weighs + more > self.server.limits.request or word(line) in WAITS):
+                    break
+                self.lines.popleft()
+                lines.append(line)
+                weighs += more
+                if word(line) in WAITS:
+                    break
+                questions += asked([line])
+            self.is_busy, self.number = True, self.number + 1
+            self.ahead -= weighs  # `request` adds it again
+            self.request(self.number, Numbers([[1, self.number - 1]] if self.number > 1 else ()), lines, weighs)
         if self.is_ended:
             self.server.put(["drop", self.session] if self.is_busy else ["end", self.session])
+
+    def is_gone(self) -> bool:
+        """Whether no answer comes to the peer any more."""
+        return self.is_cut or self.writer.transport.is_closing()
+
+    def taken(self, size: int) -> None:
+        """A request of this session that weighs as much is in a group."""
+        self.ahead = max(0, self.ahead - size)  # it may have come over an earlier connection
+        if self.ahead <= AHEAD:
+            self.room.set()
 
     def request(self, number: int, acks: Numbers, lines: Lines, size: int) -> None:
         if size > self.server.limits.request and self.is_framed:
@@ -177,6 +207,7 @@ class Connection:
             self.answer(number, b"RequestsFull")
         else:
             self.flight.add(number)
+            self.ahead += size
             if self.server.machine.is_logged(lines):
                 for low, high in self.held.ranges:
                     acks.add(low, high)
@@ -191,9 +222,8 @@ class Connection:
         self.flight.discard(number)
         if isinstance(lines, bytes):
             self.write((b"@%d refused %s\n" % (number, lines)) if self.is_framed else b"refused %s\n" % lines)
-        else:
-            text = b"".join([it + b"\n" for it in lines])
-            self.write(b"@%d %d\n%s" % (number, len(lines), text) if self.is_framed else text if number else b"")
+        elif number or self.is_framed:
+            self.write(b"\n".join([*([b"@%d %d" % (number, len(lines))] if self.is_framed else ()), *lines, b""]))
         if not self.is_framed:
             self.is_busy = self.is_busy and not number
             self.pump()
@@ -398,8 +428,8 @@ class Server:
         later change of the same session."""
         items: list[Item] = []
         questions: list[Item] = []
-        asking, size = set(), 0
-        while self.queue and size < GROUP:
+        asking, weighs, long = set(), 0, 0
+        while self.queue and weighs < GROUP and long < PIECE:
             kind, session, *rest = self.queue[0]
             if kind == "req" and not self.machine.is_logged(rest[2]) and session in self.machine.sessions:
                 questions.append(self.queue.popleft())
@@ -408,7 +438,13 @@ class Server:
                 break
             else:
                 items.append(self.queue.popleft())
-            size += 64 + (24 * len(rest[1]) + weight(rest[2]) if kind == "req" else 0)
+                long += asked(rest[2]) if kind == "req" else 0  # all answers to them are made before one is sent
+            weighs += 64
+            if kind == "req":
+                of_lines = weight(rest[2])
+                weighs += 24 * len(rest[1]) + of_lines
+                if connection := self.connections.get(session):
+                    connection.taken(of_lines)
         return items, questions
 
     async def serve(self) -> None:
@@ -434,10 +470,32 @@ class Server:
                 return
 
     async def answer(self, questions: list[Item]) -> None:
-        lines = [it for q in questions for it in q[4] if word(it) is not None]
-        answers = iter(await self.machine.ask(lines))
-        for _, session, number, _, asked in questions:
-            self.tell([(session, number, [line for it in asked if word(it) is not None for line in next(answers)])], [])
+        """Answers questions: as many requests in one go as are one piece, and each longer one by itself. What is left when they have made
+        as many bytes as the answer to one request may have comes first in the next group."""
+        many = deque((it, [line for line in it[4] if word(line) is not None]) for it in questions)
+        made = 0
+        while many and made <= self.limits.answer:
+            few = [many.popleft()]
+            costs = asked(few[0][1])
+            while many and costs + asked(many[0][1]) <= PIECE:
+                few.append(many.popleft())
+                costs += asked(few[-1][1])
+            session = few[0][0][1]
+            answers = deque(await self.machine.ask([line for it in few for line in it[1]], lambda: len(few) > 1 or self.is_heard(session)))
+            for (_, session, number, *_), lines in few:
+                is_whole = len(answers) >= len(lines)  # else its connection is gone
+                answer = [line for _ in lines for line in answers.popleft()] if is_whole else []
+                made += size(answer)
+                self.tell([(session, number, answer)], [])
+        for item, _ in reversed(many):
+            self.queue.appendleft(item)
+            if connection := self.connections.get(item[1]):
+                connection.ahead += weight(item[4])
+
+    def is_heard(self, session: str) -> bool:
+        """Whether an answer comes to the session's client now."""
+        connection = self.connections.get(session)
+        return connection is not None and not connection.is_gone()
 
     def tell(self, done: Sequence[Done], items: Sequence[Item]) -> None:
         for session, number, lines in done:
@@ -458,7 +516,7 @@ class Server:
         for pause in (*FIRST_TRIES, None):
             console = await Console(program, options).start()
             try:
-                self.machine = await Machine(console, self.limits.waiting).begin(has_texts=self.keep)
+                self.machine = await Machine(console, self.limits.waiting, self.limits.answer).begin(has_texts=self.keep)
                 break
             except Ended:
                 if await console.close() != 1 or journal is None or pause is None:
@@ -574,6 +632,16 @@ async def declarations(program: str, path: str) -> list[Item]:
     finally:
         await console.close()
     return [["open", ""], ["req", "", 1, [], [*lines, b"take 0"]], ["end", ""]]
+
+
+def is_left(writer: asyncio.StreamWriter) -> bool:
+    """Whether the other end of a connection is closed in both directions."""
+    found = writer.get_extra_info("socket")
+    poll = select.poll()
+    if found is None or found.fileno() < 0:
+        return True
+    poll.register(found.fileno(), 0)
+    return bool(poll.poll(0))
 
 
 def peer(writer: asyncio.StreamWriter) -> str:

@@ -24,7 +24,7 @@ from pathlib import Path
 
 from ._commands import decimal
 from ._etcd import Access, context_of
-from ._machine import WAITING, Ended
+from ._machine import ANSWER, WAITING, Ended
 from ._program import check_built, find_program, raise_stack_limit
 from ._replica import EVERY, LEASE, Differs, Replica
 from ._serve import Limits, Server
@@ -55,6 +55,7 @@ def parser() -> argparse.ArgumentParser:
     add("--max-connections", metavar="N", type=_number, default=Limits.connections, help="default %(default)s")
     add("--max-waiting", metavar="N", type=_number, default=WAITING, help="blocks that wait (default %(default)s)")
     add("--max-request", metavar="BYTES", type=_number, default=Limits.request, help="of a request, such as a batch (default %(default)s)")
+    add("--max-answer", metavar="BYTES", type=_number, default=ANSWER, help="of the answer to a request; then its rest is refused (default %(default)s)")
     add("--max-unread", metavar="BYTES", type=_number, default=Limits.unread, help="of answers that a peer hasn't read (default %(default)s)")
     add("--replicas", metavar="HOST:PORT,..", type=_nodes, help="nodes of etcd with the log of several servers (docs/REPLICAS.md)")
     add("--name", metavar="NAME", help="of this replica")
@@ -143,7 +144,7 @@ async def webs(server: Server, words: argparse.Namespace) -> list[Web]:
 
 
 def limits(words: argparse.Namespace) -> Limits:
-    return Limits(words.max_connections, words.max_request, words.max_unread, words.max_waiting)
+    return Limits(words.max_connections, words.max_request, words.max_unread, words.max_waiting, words.max_answer)
 
 
 def replica(words: argparse.Namespace, program: str, path: str) -> Replica:
@@ -241,8 +242,8 @@ def main(arguments: Sequence[str] | None = None) -> int:
         found.error("--sync goes with --journal")
     if words.replicas and not (words.name and words.folder):
         found.error("--replicas goes with --name and --folder")
-    if words.replicas and (words.journal or words.max_waiting != WAITING):
-        found.error("--journal and --max-waiting don't go with --replicas: the log has the desk, and all replicas answer alike")
+    if words.replicas and (words.journal or words.max_waiting != WAITING or words.max_answer != ANSWER):
+        found.error("--journal, --max-waiting and --max-answer don't go with --replicas: the log has the desk, and all replicas answer alike")
     if not words.replicas and (words.name or words.folder):
         found.error("--name and --folder go with --replicas")
     logging.basicConfig(level=logging.INFO, format="stmdesk-serve: %(message)s", stream=sys.stderr)
