@@ -147,16 +147,23 @@ class Console:
             self._lines.extend(whole)
         return self._lines.popleft()
 
-    async def close(self) -> int:
-        """Ends the program's input, and waits for it. Returns its exit status."""
+    async def close(self, patience: float | None = None) -> int:
+        """Ends the program's input, and waits for it; after so many seconds it is killed. Returns its exit status."""
         if not self._process:
             return 0
+        try:
+            return await asyncio.wait_for(self._close(self._process), patience)
+        except asyncio.TimeoutError:
+            self.kill()
+            return await self._process.wait()
+
+    async def _close(self, process: asyncio.subprocess.Process) -> int:
         async with self._lock:
-            assert self._process.stdin
-            self._process.stdin.close()
-            status = await self._process.wait()
+            assert process.stdin
+            process.stdin.close()
+            status = await process.wait()
             with suppress(OSError):  # it may have ended before it had read all
-                await self._process.stdin.wait_closed()
+                await process.stdin.wait_closed()
             return status
 
     def kill(self) -> None:

@@ -6,6 +6,7 @@ import asyncio
 import errno
 import fcntl
 import logging
+import math
 import os
 import select
 import shutil
@@ -17,7 +18,7 @@ from collections import Counter, deque
 from collections.abc import Callable, Sequence
 from contextlib import suppress
 from dataclasses import dataclass
-from typing import Any
+from typing import Any, NoReturn
 
 from ._machine import (
     ANSWER, LINE, PIECE, REQUEST, REQUESTS, WAITING, WAITS, Console, Done, Ended, Lines, Machine, asked, cost, size, weight, word,
@@ -28,8 +29,11 @@ from ._program import is_locked
 GROUP = 1 << 18  # weight of a group, after which no further request is taken into it
 AHEAD = 1 << 21  # weight of the lines of one connection that are read and in no group; then nothing more of it is read
 ACKS = 5000  # ranges of numbers that one request acknowledges at most
+ACCEPTED = 8  # connections that are accepted in one go
 PAUSE = 1.0  # seconds between two looks whether the peer of a connection of which nothing is read is there
 STOPPING = 2.0  # seconds that connections have to read their last answers
+GONE = 10.0  # seconds after which a server that was stopped is gone, whatever its clients and its program do
+CLOSING = 3.0  # of them, for its connections and its program
 PATH_LENGTH = 107  # bytes of the path of a unix socket
 FIRST_TRIES = (0.1, 0.2, 0.5, 1.0, 2.0)  # seconds between tries to start on a journal that is in use
 
@@ -45,6 +49,13 @@ class Limits:
     unread: int = 8 << 20  # bytes of answers that a peer hasn't read when another one comes
     waiting: int = WAITING
     answer: int = ANSWER  # bytes of the answer to a request after which its further lines are refused
+
+
+def out_of_memory() -> NoReturn:
+    """Ends the process: after an allocation that failed nobody knows what of a call was done. What was answered is in the journal, and the
+    program ends with its input."""
+    os.write(2, b"stmdesk-serve: out of memory\n")
+    os._exit(1)
 
 
 class Connection:
@@ -107,6 +118,8 @@ class Connection:
         elif not self.is_framed:
             if not self.is_begun:
                 self.join(self.session, ["open", *(["keep"] if self.server.keep else [])])
+                if self.is_cut:
+                    return
             self.lines.append((line, weight([line])))
             self.ahead += self.lines[-1][1]
             self.pump()
@@ -156,6 +169,9 @@ class Connection:
             self.cut()
 
     def join(self, name: str, words: Sequence[str]) -> None:
+        if self.server.is_stopping:
+            self.refuse("Stopping")
+            return
         self.session, self.is_begun = name, True
         old = self.server.connections.get(name)
         self.server.connections[name] = self
@@ -290,6 +306,8 @@ class Server:
         self.checkpoint_every = 0  # events after which this server makes a checkpoint, 0 for never
         self.own_checkpoints = 0  # events after which the program makes one by itself, 0 for never
         self.is_stopping = False
+        self.ending: set[str] = set()  # sessions that end since it is stopping
+        self.gone_at = math.inf  # when it must have ended, by this process's clock
         self.refused: Counter[str] = Counter()  # connections, by reason
         self.groups, self.grouped, self.seconds = 0, 0, 0.0
         self.on_group: list[Callable[[], None]] = []
@@ -331,20 +349,29 @@ class Server:
     def note(self, what: str, connection: Connection | None = None) -> None:
         """Writes a line about a connection into the log, but no more than one a second."""
         self.refused[what] += 1
+        self.warn(f"{peer(connection.writer) if connection else 'a peer'} {what}: its connection is ended")
+
+    def warn(self, text: str) -> None:
         now = time.monotonic()
         if now - self._noted < 1:
             self._unnoted += 1
             return
-        who = peer(connection.writer) if connection else "a peer"
         more = f" (and {self._unnoted} more lines like this)" if self._unnoted else ""
-        log.warning("%s %s: its connection is ended%s", who, what, more)
+        log.warning("%s%s", text, more)
         self._noted, self._unnoted = now, 0
+
+    def trouble(self, _: asyncio.AbstractEventLoop, context: dict[str, Any]) -> None:
+        """What asyncio does with an error that nothing has caught, such as that of an `accept`."""
+        error = context.get("exception")
+        if isinstance(error, MemoryError):
+            out_of_memory()
+        self.warn(f"{context.get('message', 'an error')}: {type(error).__name__}: {error}" if error else str(context.get("message")))
 
     def lock_path(self) -> None:
         """So that no two servers have one socket: asyncio removes a socket that is there, another server's too. Raises OSError, also if
         what is there isn't a socket that a killed server has left."""
         check_path(self.path)
-        self._locked = os.open(f"{self.path}.lock", os.O_CREAT | os.O_RDWR | os.O_CLOEXEC, 0o600)
+        self._locked = lock_file(f"{self.path}.lock")
         try:
             fcntl.flock(self._locked, fcntl.LOCK_EX | fcntl.LOCK_NB)
             if is_listened_on(self.path):
@@ -358,25 +385,41 @@ class Server:
 
     async def listen(self, given: socket.socket | None = None) -> None:
         """Listens on the path, or on a socket that the service manager has opened."""
-        more: dict[str, Any] = {"backlog": self.limits.connections}
+        more: dict[str, Any] = {"backlog": ACCEPTED}
         if sys.version_info >= (3, 13):
             more["cleanup_socket"] = False  # that of a service manager is its own, and `close_path` removes the other
+        taken = given or self.bound()
+        self._listener = await asyncio.start_unix_server(self.connected, sock=taken, **more)
+        taken.listen(self.limits.connections)  # so many may wait to be accepted
         if given:
-            self._listener = await asyncio.start_unix_server(self.connected, sock=given, **more)
             return
-        before = os.umask(0o777)  # nobody can connect before it has its group and its mode
-        try:
-            self._listener = await asyncio.start_unix_server(self.connected, self.path, **more)
-        finally:
-            os.umask(before)
         self._own = identity(self.path)
         if self.group is not None:
             shutil.chown(self.path, group=self.group)
         os.chmod(self.path, self.mode)
 
+    def bound(self) -> socket.socket:
+        """A socket at the path, in place of one that a killed server has left. Raises OSError."""
+        found = socket.socket(socket.AF_UNIX, socket.SOCK_STREAM)
+        before = os.umask(0o777)  # nobody can connect before it has its group and its mode
+        try:
+            check_path(self.path)
+            with suppress(FileNotFoundError):
+                os.unlink(self.path)
+            found.bind(self.path)
+        except OSError as error:
+            found.close()
+            raise OSError(error.errno, error.strerror, self.path) if error.errno else error
+        finally:
+            os.umask(before)
+        return found
+
     async def connected(self, reader: asyncio.StreamReader, writer: asyncio.StreamWriter) -> None:
         connection = Connection(self, reader, writer)
-        if self.is_stopping or len(self.open) >= self.limits.connections:
+        if self.is_stopping:
+            connection.refuse("Stopping")
+            return
+        if len(self.open) >= self.limits.connections:
             self.note("finds all connections taken", connection)
             connection.refuse("ConnectionsFull")
             return
@@ -387,6 +430,8 @@ class Server:
             task.add_done_callback(self.tasks.discard)
         try:
             await connection.serve()
+        except MemoryError:
+            out_of_memory()
         except OSError:
             connection.is_ended = True
             connection.lines.clear()
@@ -431,6 +476,10 @@ class Server:
         asking, weighs, long = set(), 0, 0
         while self.queue and weighs < GROUP and long < PIECE:
             kind, session, *rest = self.queue[0]
+            if kind == "open" and self.is_stopping and (connection := self.connections.get(session)):
+                self.queue.popleft()
+                connection.refuse("Stopping")
+                continue
             if kind == "req" and not self.machine.is_logged(rest[2]) and session in self.machine.sessions:
                 questions.append(self.queue.popleft())
                 asking.add(session)
@@ -466,7 +515,9 @@ class Server:
                 await self.after_group()
                 for it in self.on_group:
                     it()
-            if self.is_stopping and not self.queue:
+                if self.is_stopping:
+                    self.end_all()
+            if self.is_stopping:
                 return
 
     async def answer(self, questions: list[Item]) -> None:
@@ -545,33 +596,51 @@ class Server:
         ending = asyncio.ensure_future(self.end_lost())
         stopping = asyncio.ensure_future(stop.wait())
         try:
-            await asyncio.wait((serving, stopping), return_when=asyncio.FIRST_COMPLETED)
-            if not serving.done():
+            await asyncio.wait((serving, ending, stopping), return_when=asyncio.FIRST_COMPLETED)
+            if not serving.done() and not ending.done():
                 await self.stop()
-            await serving
+                await asyncio.wait((serving,), timeout=self.left() - CLOSING)
+                if not serving.done():
+                    log.warning("stopped before all calls were answered")
+            for it in (serving, ending):
+                if it.done():
+                    it.result()
+        except MemoryError:
+            out_of_memory()
         finally:
             for task in (ending, stopping, serving):
                 task.cancel()
             await asyncio.gather(ending, stopping, serving, return_exceptions=True)
-            for connection in list(self.open):
-                connection.cut()
-            if self.tasks:
-                await asyncio.wait(self.tasks, timeout=STOPPING)
+            await self.cut_all()
 
     async def stop(self) -> None:
-        """Has all sessions end, so that each waiting call is answered, and takes no more connections."""
-        self.is_stopping = True
+        """Takes no more connections, and has all sessions end, so that each waiting call is answered."""
+        self.begin_to_stop()
+        self.end_all()
+        self.wake.set()
+
+    def begin_to_stop(self) -> None:
+        self.is_stopping, self.gone_at = True, time.monotonic() + GONE
         if self._listener:
             self._listener.close()
-        writers = [it.writer for it in self.open]
-        for session in list(self.machine.sessions):
-            self.put(["end", session])
-        self.wake.set()
-        end = time.monotonic() + STOPPING
-        while self.queue or any(it.transport.get_write_buffer_size() for it in writers if not it.transport.is_closing()):
-            if time.monotonic() > end:
-                break
-            await asyncio.sleep(0.01)
+
+    def end_all(self) -> None:
+        """Has each session end that isn't ending. One may have begun in the group that was under way when the server was stopped."""
+        for session in self.machine.sessions:
+            if session not in self.ending:
+                self.ending.add(session)
+                self.put(["end", session])
+
+    def left(self) -> float:
+        """The seconds until the server must be gone."""
+        return max(0.0, self.gone_at - time.monotonic())
+
+    async def cut_all(self) -> None:
+        """Ends all connections; those whose sessions have ended have some time to read their last answers."""
+        for connection in list(self.open):
+            connection.cut()
+        if self.tasks:
+            await asyncio.wait(self.tasks, timeout=STOPPING)
 
     def close_path(self) -> None:
         """Removes the socket, if it is this server's."""
@@ -581,6 +650,16 @@ class Server:
                     os.unlink(self.path)
             os.close(self._locked)
             self._locked = -1
+
+
+def lock_file(path: str) -> int:
+    """A descriptor of a file to lock, which is made if it isn't there. Raises OSError, also if it is a link."""
+    try:
+        return os.open(path, os.O_CREAT | os.O_RDWR | os.O_CLOEXEC | os.O_NOFOLLOW, 0o600)
+    except OSError as error:
+        if error.errno == errno.ELOOP:
+            raise OSError(f"{path}: a link is there") from None
+        raise
 
 
 def check_path(path: str) -> None:

@@ -14,6 +14,7 @@ import errno
 import grp
 import logging
 import os
+import resource
 import shutil
 import signal
 import socket
@@ -27,11 +28,12 @@ from ._etcd import Access, context_of
 from ._machine import ANSWER, WAITING, Ended
 from ._program import check_built, find_program, raise_stack_limit
 from ._replica import EVERY, LEASE, Differs, Replica
-from ._serve import Limits, Server
-from ._web import Web, host_and_port
+from ._serve import Limits, Server, out_of_memory
+from ._web import CONNECTIONS, Web, host_and_port
 
 CHECKPOINT = 500_000  # events
 FIRST_FILE = 3  # that a service manager gives
+FILES = 32  # that a server has open beside its connections, at most
 
 log = logging.getLogger("stmdesk.server")
 
@@ -144,7 +146,14 @@ async def webs(server: Server, words: argparse.Namespace) -> list[Web]:
 
 
 def limits(words: argparse.Namespace) -> Limits:
-    return Limits(words.max_connections, words.max_request, words.max_unread, words.max_waiting, words.max_answer)
+    """Those of the words; fewer connections if this process may have fewer files."""
+    may, _ = resource.getrlimit(resource.RLIMIT_NOFILE)
+    others = FILES + (FILES if words.replicas else 0) + sum(CONNECTIONS + 1 for it in (words.http, words.metrics) if it)
+    connections = words.max_connections
+    if may != resource.RLIM_INFINITY and connections > may - others:
+        connections = max(1, may - others)
+        log.warning("at most %d connections, since this process may have %d files open (ulimit -n)", connections, may)
+    return Limits(connections, words.max_request, words.max_unread, words.max_waiting, words.max_answer)
 
 
 def replica(words: argparse.Namespace, program: str, path: str) -> Replica:
@@ -173,6 +182,7 @@ async def serve(words: argparse.Namespace, program: str) -> None:
         await serve_replica(words, replica(words, program, path), given, stop)
         return
     server = Server(path, grace=words.grace, keep=words.keep, limits=limits(words), mode=words.mode, group=words.group)
+    loop.set_exception_handler(server.trouble)
     options = []
     if words.journal:
         every = words.checkpoint_every or CHECKPOINT
@@ -197,7 +207,7 @@ async def serve(words: argparse.Namespace, program: str) -> None:
             tell_manager("STOPPING=1")
             for it in pages:
                 it.close()
-            status = await server.machine.console.close()
+            status = await server.machine.console.close(server.left() if server.is_stopping else None)
             if status:
                 log.error("the program ended with status %d", status)
     finally:
@@ -206,6 +216,7 @@ async def serve(words: argparse.Namespace, program: str) -> None:
 
 async def serve_replica(words: argparse.Namespace, server: Replica, given: socket.socket | None, stop: asyncio.Event) -> None:
     """The same for a replica."""
+    asyncio.get_running_loop().set_exception_handler(server.trouble)
     if given is None:
         server.lock_path()
     pages: list[Web] = []
@@ -228,7 +239,7 @@ async def serve_replica(words: argparse.Namespace, server: Replica, given: socke
             tell_manager("STOPPING=1")
             for it in pages:
                 it.close()
-            await server.machine.console.close()
+            await server.machine.console.close(server.left() if server.is_stopping else None)
     finally:
         server.close_path()
 
@@ -258,6 +269,8 @@ def main(arguments: Sequence[str] | None = None) -> int:
     except Ended:
         log.error("the program has ended, and the server with it")
         return 1
+    except MemoryError:
+        out_of_memory()
     except Differs as why:
         log.error("this replica differs, and stops: %s", why)
         return 5
