@@ -9,7 +9,7 @@ from __future__ import annotations
 import asyncio
 import hashlib
 import json
-from collections import deque
+from collections import Counter, deque
 from collections.abc import Callable, Iterable, Sequence
 from contextlib import suppress
 from dataclasses import dataclass, field
@@ -84,6 +84,11 @@ def cost(its: bytes | None) -> int:
     """How much of a piece a line with this command takes. An answer that grows with the desk is looked at before the next line is given;
     64 other questions have some 6 MB at most, as the program's lines and those of blocks are bounded."""
     return PIECE if its in LONG else PIECE // 64 if its in QUESTIONS else 1
+
+
+def share(waiting: int) -> int:
+    """How many of as many waiting blocks one session may have, if nothing else is given."""
+    return max(waiting // 8, min(waiting, 64))
 
 
 def asked(lines: Iterable[bytes]) -> int:
@@ -220,8 +225,9 @@ class Given:
 class Machine:
     """A desk with the sessions that use it, and the blocks that wait for one of them."""
 
-    def __init__(self, console: Console, max_waiting: int = WAITING, max_answer: int = ANSWER) -> None:
+    def __init__(self, console: Console, max_waiting: int = WAITING, max_answer: int = ANSWER, max_waiting_each: int | None = None) -> None:
         self.console, self.max_waiting, self.max_answer = console, max_waiting, max_answer
+        self.max_waiting_each = max_waiting_each or share(max_waiting)
         self.next: int | None = 1  # the next ticket, if that is known
         self.is_declaring, self.declared_size = True, 0
         self.declared: Lines = []  # `#0 x : Int`
@@ -232,6 +238,8 @@ class Machine:
         self.unnamed: dict[int, bytes] = {}  # by ticket: labels of waits that their blocks haven't got yet
         self.waiting: dict[int, bytes] = {}  # all tickets that wait, with their blocks as far as they are known
         self.owned: dict[int, str] = {}  # by ticket: the session with which a submitted block ends
+        self.held: dict[int, str] = {}  # by ticket: the session whose share it takes, if that hasn't ended
+        self.holds: Counter[str] = Counter()  # how many that are, by session
         self.unwanted: set[int] = set()  # tickets to cancel
         self.chain = b"\0" * 32  # the SHA-256 of all answers so far
         self._digest: Any = None  # of the answers since then
@@ -242,6 +250,7 @@ class Machine:
         self.counts = {"events": 0, "finished": 0, "evaluations": 0, "cancelled": 0, "checkpoints": 0}
         self.since = 0  # events since the last checkpoint
         self._submissions = self._new_waits = 0  # in the script that isn't given yet
+        self._submitted: Counter[str] = Counter()  # the first of these, by session
 
     async def begin(self, *, has_texts: bool = True) -> Machine:
         """For a desk that may go on from a file. With texts of the blocks that wait it reads the history."""
@@ -342,6 +351,8 @@ class Machine:
         self.unwanted |= tickets
         await self._cancel()
         if is_whole:
+            for it in [it for it, owner in self.held.items() if owner == name] if self.holds[name] else ():
+                self._release(it)
             del self.sessions[name]
 
     async def _cancel(self) -> None:
@@ -385,7 +396,7 @@ class Machine:
                 if request.made > self.max_answer and line != MARK:
                     request.fill(place, FULL)
                     continue
-                if its in SUBMISSIONS and len(self.waiting) + self._submissions >= self.max_waiting:
+                if its in SUBMISSIONS and (self._is_full() or self._has_its_share(name)):
                     await self._flush(script)  # some of the blocks in the script may end at once
                 self._line(line, (name, number, place), request, script)
                 given += cost(its)
@@ -411,8 +422,11 @@ class Machine:
         if its in (b"settle", b"drain") and (self.waits or self._new_waits):
             request.fill(where[2], [b"refused Waits"])  # it wouldn't say what it finishes
             return
-        if its in SUBMISSIONS and len(self.waiting) + self._submissions >= self.max_waiting:
+        if its in SUBMISSIONS and self._is_full():
             request.fill(where[2], [b"refused WaitingFull"])
+            return
+        if its in SUBMISSIONS and self._has_its_share(where[0]):
+            request.fill(where[2], [b"refused ShareFull"])
             return
         if its == b"tvar" and self.is_declaring:
             self.declared_size += len(line)
@@ -428,7 +442,27 @@ class Machine:
             ticket = self.next + self._submissions
             script += [Given(b"eval", "eval"), Given(b"finish %d" % ticket, "finish", None, ticket)]
         self._submissions += its in SUBMISSIONS
+        self._submitted[where[0]] += its in SUBMISSIONS
         self._new_waits += its == b"wait"
+
+    def _is_full(self) -> bool:
+        """Whether as many blocks wait as may, if all in the script wait."""
+        return len(self.waiting) + self._submissions >= self.max_waiting
+
+    def _has_its_share(self, name: str) -> bool:
+        """The same of the blocks of a session."""
+        return self.holds[name] + self._submitted[name] >= self.max_waiting_each
+
+    def _hold(self, ticket: int, name: str) -> None:
+        self.held[ticket] = name
+        self.holds[name] += 1
+
+    def _release(self, ticket: int) -> None:
+        name = self.held.pop(ticket, None)
+        if name is not None:
+            self.holds[name] -= 1
+            if not self.holds[name]:
+                del self.holds[name]
 
     async def _flush(self, script: list[Given]) -> None:
         """Gives the lines to the program, looks at the answers, and clears the script."""
@@ -457,7 +491,10 @@ class Machine:
             self.waiting = {it: self.waiting.get(it, b"") for it in (int(line.split(b" ", 1)[0]) for line in shown[:-1])}
             self.owned = {it: owner for it, owner in self.owned.items() if it in self.waiting}
             self.labels = {it: label for it, label in self.labels.items() if it in self.waiting}
+            for ticket in [it for it in self.held if it not in self.waiting]:
+                self._release(ticket)
         self._submissions = self._new_waits = 0
+        self._submitted.clear()
         script.clear()
 
     async def _refused(self, given: Given, answer: Lines) -> None:
@@ -473,6 +510,7 @@ class Machine:
         elif given.kind == "own" and name == b"NoTicket":  # it was a cancel
             self.unwanted.discard(given.ticket)
             self.owned.pop(given.ticket, None)
+            self._release(given.ticket)
         elif given.kind != "finish":
             return
         elif name in (b"Stale", b"NotEvaluated"):  # somebody took it
@@ -494,6 +532,8 @@ class Machine:
                 self._fill(given.where, answer)
                 return
             self.waiting[ticket] = given.line.strip(b"\t\r ")[len(given.word) :].strip(b"\t\r ")
+            if given.where and given.where[0] in self.sessions:
+                self._hold(ticket, given.where[0])
             if given.kind == "wait" and given.where:
                 self.waits[ticket] = given.where
                 self.due.add(ticket)
@@ -562,6 +602,7 @@ class Machine:
     def _over(self, ticket: int, answer: Lines) -> None:
         self.due.discard(ticket)
         self.owned.pop(ticket, None)
+        self._release(ticket)
         self.waiting.pop(ticket, None)
         self.labels.pop(ticket, None)
         self.unnamed.pop(ticket, None)
@@ -617,6 +658,7 @@ class Machine:
             "next": self.next, "chain": self.chain.hex(), "due": sorted(self.due), "waits": [[it, *self.waits[it]] for it in sorted(self.waits)],
             "owned": [[it, self.owned[it]] for it in sorted(self.owned)], "unwanted": sorted(self.unwanted), "sessions": sessions, "counts": self.counts,
             "unnamed": [[it, self.unnamed[it].decode()] for it in sorted(self.unnamed)],
+            "held": [[it, self.held[it]] for it in sorted(self.held)],
         }  # fmt: skip
 
     def load(self, table: dict[str, Any]) -> None:
@@ -625,6 +667,9 @@ class Machine:
         self.waits = {ticket: (name, number, place) for ticket, name, number, place in table["waits"]}
         self.owned, self.unwanted = dict(table["owned"]), set(table["unwanted"])
         self.unnamed = {ticket: label.encode() for ticket, label in table.get("unnamed", ())}
+        owners = [*self.owned.items(), *((it, where[0]) for it, where in self.waits.items())]
+        self.held = dict(table.get("held", owners))  # none in a snapshot of an earlier version
+        self.holds = Counter(self.held.values())
         self.counts, self.sessions, self.since = dict(table["counts"]), {}, 0
         for name, it in table["sessions"].items():
             session = self.sessions[name] = Session({}, Numbers(it["acknowledged"]), it["keeps"])

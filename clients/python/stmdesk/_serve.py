@@ -48,7 +48,11 @@ class Limits:
     request: int = REQUEST  # weight
     unread: int = 8 << 20  # bytes of answers that a peer hasn't read when another one comes
     waiting: int = WAITING
+    waiting_each: int | None = None  # of one session; `share` of all of them if nothing else is given
     answer: int = ANSWER  # bytes of the answer to a request after which its further lines are refused
+
+    def machine(self, console: Console) -> Machine:
+        return Machine(console, self.waiting, self.answer, self.waiting_each)
 
 
 def out_of_memory() -> NoReturn:
@@ -567,7 +571,7 @@ class Server:
         for pause in (*FIRST_TRIES, None):
             console = await Console(program, options).start()
             try:
-                self.machine = await Machine(console, self.limits.waiting, self.limits.answer).begin(has_texts=self.keep)
+                self.machine = await self.limits.machine(console).begin(has_texts=self.keep)
                 break
             except Ended:
                 if await console.close() != 1 or journal is None or pause is None:

@@ -56,6 +56,7 @@ def parser() -> argparse.ArgumentParser:
     add("--group", metavar="GROUP", type=_group, help="of the socket")
     add("--max-connections", metavar="N", type=_number, default=Limits.connections, help="default %(default)s")
     add("--max-waiting", metavar="N", type=_number, default=WAITING, help="blocks that wait (default %(default)s)")
+    add("--max-waiting-each", metavar="N", type=_number, help="of these, of one session (default an eighth)")
     add("--max-request", metavar="BYTES", type=_number, default=Limits.request, help="of a request, such as a batch (default %(default)s)")
     add("--max-answer", metavar="BYTES", type=_number, default=ANSWER, help="of the answer to a request; then its rest is refused (default %(default)s)")
     add("--max-unread", metavar="BYTES", type=_number, default=Limits.unread, help="of answers that a peer hasn't read (default %(default)s)")
@@ -153,7 +154,7 @@ def limits(words: argparse.Namespace) -> Limits:
     if may != resource.RLIM_INFINITY and connections > may - others:
         connections = max(1, may - others)
         log.warning("at most %d connections, since this process may have %d files open (ulimit -n)", connections, may)
-    return Limits(connections, words.max_request, words.max_unread, words.max_waiting, words.max_answer)
+    return Limits(connections, words.max_request, words.max_unread, words.max_waiting, words.max_waiting_each, words.max_answer)
 
 
 def replica(words: argparse.Namespace, program: str, path: str) -> Replica:
@@ -253,8 +254,8 @@ def main(arguments: Sequence[str] | None = None) -> int:
         found.error("--sync goes with --journal")
     if words.replicas and not (words.name and words.folder):
         found.error("--replicas goes with --name and --folder")
-    if words.replicas and (words.journal or words.max_waiting != WAITING or words.max_answer != ANSWER):
-        found.error("--journal, --max-waiting and --max-answer don't go with --replicas: the log has the desk, and all replicas answer alike")
+    if words.replicas and (words.journal or words.max_waiting != WAITING or words.max_waiting_each or words.max_answer != ANSWER):
+        found.error("--journal, --max-waiting.. and --max-answer don't go with --replicas: the log has the desk, and all replicas answer alike")
     if not words.replicas and (words.name or words.folder):
         found.error("--name and --folder go with --replicas")
     logging.basicConfig(level=logging.INFO, format="stmdesk-serve: %(message)s", stream=sys.stderr)
