@@ -7,8 +7,10 @@ names of files, or on who leads. So replicas that are given the same entries giv
 from __future__ import annotations
 
 import asyncio
+import fcntl
 import hashlib
 import json
+import os
 from collections import Counter, deque
 from collections.abc import Callable, Iterable, Sequence
 from contextlib import suppress
@@ -110,10 +112,23 @@ class Console:
         self._rest = b""
         self._lock = asyncio.Lock()
         self._process: asyncio.subprocess.Process | None = None
+        self._input: asyncio.WriteTransport
 
     async def start(self) -> Console:
-        pipe = asyncio.subprocess.PIPE
-        self._process = await asyncio.create_subprocess_exec(*self.command, stdin=pipe, stdout=pipe, start_new_session=True)
+        # A pipe, where asyncio may take a socket: whether its other end is open can be seen by others (`Holder.is_left`).
+        reading, writing = os.pipe()
+        file = os.fdopen(writing, "wb", 0)
+        try:
+            with suppress(OSError):
+                fcntl.fcntl(file, fcntl.F_SETPIPE_SZ, REQUEST)
+            pipe = asyncio.subprocess.PIPE
+            self._process = await asyncio.create_subprocess_exec(*self.command, stdin=reading, stdout=pipe, start_new_session=True)
+            self._input, _ = await asyncio.get_running_loop().connect_write_pipe(asyncio.BaseProtocol, file)
+        except BaseException:
+            file.close()
+            raise
+        finally:
+            os.close(reading)
         return self
 
     async def run(self, lines: Sequence[bytes]) -> list[Lines]:
@@ -121,9 +136,8 @@ class Console:
         `Ended`."""
         words = [word(it) for it in lines]
         async with self._lock:
-            assert self._process and self._process.stdin
             ends = {b"history": b"\n" + MARK + b"\n"}
-            self._process.stdin.write(b"".join([it + ends.get(its or b"", b"\n") for it, its in zip(lines, words)]))
+            self._input.write(b"".join([it + ends.get(its or b"", b"\n") for it, its in zip(lines, words)]))
             return [await self._answer(it) for it in words]
 
     async def _answer(self, its: bytes | None) -> Lines:
@@ -164,12 +178,8 @@ class Console:
 
     async def _close(self, process: asyncio.subprocess.Process) -> int:
         async with self._lock:
-            assert process.stdin
-            process.stdin.close()
-            status = await process.wait()
-            with suppress(OSError):  # it may have ended before it had read all
-                await process.stdin.wait_closed()
-            return status
+            self._input.close()
+            return await process.wait()
 
     def kill(self) -> None:
         if self._process and self._process.returncode is None:

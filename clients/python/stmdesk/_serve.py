@@ -23,6 +23,7 @@ from typing import Any, NoReturn
 from ._machine import (
     ANSWER, LINE, PIECE, REQUEST, REQUESTS, WAITING, WAITS, Console, Done, Ended, Lines, Machine, asked, cost, size, weight, word,
 )  # fmt: skip
+from ._locks import holder_of
 from ._numbers import Numbers
 from ._program import is_locked
 
@@ -566,24 +567,30 @@ class Server:
     # The whole.
 
     async def start(self, program: str, options: Sequence[str], *, journal: str | None, declare: str | None) -> None:
-        """Starts the program, and declares what the file says if the desk is new. Raises `Ended` if the program doesn't start."""
-        was_free = False
+        """Starts the program, and declares what the file says if the desk is new. Raises `Ended` if the program doesn't start, and OSError if
+        another process has the journal."""
+        said = was_free = False
         for pause in (*FIRST_TRIES, None):
-            console = await Console(program, options).start()
-            try:
-                self.machine = await self.limits.machine(console).begin(has_texts=self.keep)
-                break
-            except Ended:
-                if await console.close() != 1 or journal is None or pause is None:
-                    raise
-                # A desk whose server was killed has the journal until it has gone through the rest of its input. If nobody has it now, that
-                # may have ended just before; a second time it is something else, of which the program has said what.
-                if not is_locked(journal):
-                    if was_free:
+            if journal is None or not is_locked(journal):
+                console = await Console(program, options).start()
+                try:
+                    self.machine = await self.limits.machine(console).begin(has_texts=self.keep)
+                    break
+                except Ended:
+                    # If nobody has the journal now, whoever had it may have ended just before; a second time it is something else, of which
+                    # the program has said what.
+                    if await console.close() != 1 or journal is None or pause is None or was_free:
                         raise
-                    was_free = True
-                log.info("trying again to start on %s", journal)
-                await asyncio.sleep(pause)
+                    was_free = not is_locked(journal)
+                    continue
+            holder = holder_of(journal)
+            # The program of a server that was killed has the journal until it has gone through the rest of its input.
+            if pause is None or holder is None or not holder.is_left():
+                raise OSError(f"{journal}: in use by {holder or 'another process'}")
+            if not said:
+                log.info("%s: waiting for %s, whose server has ended", journal, holder)
+                said = True
+            await asyncio.sleep(pause)
         try:
             if declare and self.machine.is_declaring:
                 await self.machine.apply(await declarations(program, declare))

@@ -23,6 +23,7 @@ from collections.abc import Sequence
 from contextlib import suppress
 from pathlib import Path
 
+from . import __version__
 from ._commands import decimal
 from ._etcd import Access, context_of
 from ._machine import ANSWER, WAITING, Ended
@@ -44,6 +45,7 @@ def parser() -> argparse.ArgumentParser:
         description="A desk for several processes, behind a unix socket.", epilog="docs/SERVER.md and docs/REPLICAS.md have the whole.",
     )  # fmt: skip
     add = found.add_argument
+    add("--version", action="version", version=f"%(prog)s {__version__}")
     add("socket", metavar="SOCKET", nargs="?", help="the path of the socket; none if a service manager gives one")
     add("--program", metavar="PATH", help="the program stmdesk; else the one that the package finds")
     add("--declare", metavar="FILE", help="lines `tvar NAME : TYPE = INIT`, for a desk that is new")
@@ -132,18 +134,22 @@ def tell_manager(text: str) -> None:
             it.send(text.encode())
 
 
-async def webs(server: Server, words: argparse.Namespace) -> list[Web]:
-    """The live page and the figures that were asked for. Raises OSError, ValueError and ImportError."""
-    found = []
-    for what, address in (("page", words.http), ("metrics", words.metrics)):
-        if address:
-            found.append(Web(server, what))
-            at = await found[-1].listen(address)
-            if what == "page":
-                print(f"the live page: {at}", flush=True)
-            else:
-                log.info("figures for Prometheus: %s", at)
-    return found
+def webs(server: Server, words: argparse.Namespace) -> list[Web]:
+    """The live page and the figures that were asked for. Raises ValueError, and ImportError if what they need isn't there."""
+    for it in (words.http, words.metrics):
+        if it:
+            host_and_port(it)
+    return [Web(server, what) for what, address in (("page", words.http), ("metrics", words.metrics)) if address]
+
+
+async def listen(pages: Sequence[Web], words: argparse.Namespace) -> None:
+    """Raises OSError."""
+    for it in pages:
+        at = await it.listen(words.http if it.what == "page" else words.metrics)
+        if it.what == "page":
+            print(f"the live page: {at}", flush=True)
+        else:
+            log.info("figures for Prometheus: %s", at)
 
 
 def limits(words: argparse.Namespace) -> Limits:
@@ -191,13 +197,13 @@ async def serve(words: argparse.Namespace, program: str) -> None:
         server.own_checkpoints = every
     else:
         server.checkpoint_every = words.checkpoint_every or CHECKPOINT
+    pages = webs(server, words)
     if given is None:
         server.lock_path()
-    pages: list[Web] = []
     try:
         await server.start(program, options, journal=words.journal, declare=words.declare)
         try:
-            pages = await webs(server, words)
+            await listen(pages, words)
             await server.listen(given)
             kept = f"the journal {words.journal}" if words.journal else "memory alone"
             log.info("started on %s, process %d, with %s", path, os.getpid(), kept)
@@ -218,9 +224,9 @@ async def serve(words: argparse.Namespace, program: str) -> None:
 async def serve_replica(words: argparse.Namespace, server: Replica, given: socket.socket | None, stop: asyncio.Event) -> None:
     """The same for a replica."""
     asyncio.get_running_loop().set_exception_handler(server.trouble)
+    pages = webs(server, words)
     if given is None:
         server.lock_path()
-    pages: list[Web] = []
     try:
         server.lock_folder()
         begun, stopped = asyncio.ensure_future(server.start_replica()), asyncio.ensure_future(stop.wait())
@@ -230,7 +236,7 @@ async def serve_replica(words: argparse.Namespace, server: Replica, given: socke
             return
         await begun
         try:
-            pages = await webs(server, words)
+            await listen(pages, words)
             await server.listen(given)
             log.info("started on %s, process %d, as replica %s", server.path, os.getpid(), server.name)
             tell_manager("READY=1")
