@@ -49,7 +49,9 @@ def holder_of(path: str) -> Holder | None:
         words = it.split()  # `1: FLOCK ADVISORY WRITE 4711 fe:00:123 0 EOF`; `->` is before the kind of one that waits
         if len(words) < 6 or words[1] != "FLOCK" or not words[4].isdigit() or words[5].rpartition(":")[2] != str(wanted.st_ino):
             continue
-        pid = int(words[4])
+        pid = int(words[4])  # 0 of a process in another namespace
+        if not pid:
+            continue
         device = f"{os.major(wanted.st_dev):02x}:{os.minor(wanted.st_dev):02x}"
         if _has_open(pid, wanted, default=words[5].rpartition(":")[0] == device):
             return Holder(pid, _command(pid))

@@ -119,7 +119,7 @@ class Console:
         reading, writing = os.pipe()
         file = os.fdopen(writing, "wb", 0)
         try:
-            with suppress(OSError):
+            with suppress(OSError, AttributeError):  # it holds a request as a whole, if that may be
                 fcntl.fcntl(file, fcntl.F_SETPIPE_SZ, REQUEST)
             pipe = asyncio.subprocess.PIPE
             self._process = await asyncio.create_subprocess_exec(*self.command, stdin=reading, stdout=pipe, start_new_session=True)

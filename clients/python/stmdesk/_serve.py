@@ -20,10 +20,10 @@ from contextlib import suppress
 from dataclasses import dataclass
 from typing import Any, NoReturn
 
-from ._machine import (
-    ANSWER, LINE, PIECE, REQUEST, REQUESTS, WAITING, WAITS, Console, Done, Ended, Lines, Machine, asked, cost, size, weight, word,
-)  # fmt: skip
 from ._locks import holder_of
+from ._machine import (
+    ANSWER, LINE, PIECE, REQUEST, REQUESTS, WAITING, WAITS, Console, Done, Ended, Lines, Machine, asked, size, weight, word,
+)  # fmt: skip
 from ._numbers import Numbers
 from ._program import is_locked
 
