@@ -348,7 +348,17 @@ class Desk:
             if not self._transport.is_shared:
                 return self._with_texts(entries, blocks, reasons)
             parts = [entries[at : at + ASKED] for at in range(0, len(entries), ASKED)]
-            return [entry for part in parts for entry in self._with_texts(part, blocks, reasons)]
+            return [entry for part in parts for entry in self._from_server(part, blocks, reasons)]
+
+    def _from_server(self, entries: Sequence[Entry], blocks: bool, reasons: bool) -> list[Entry]:
+        """The entries with what is wanted, in as many goes as the server's bound for the answer to one request needs."""
+        try:
+            return self._with_texts(entries, blocks, reasons)
+        except Refused as error:
+            if error.name != "AnswersFull" or len(entries) < 2:
+                raise
+        half = len(entries) // 2
+        return [it for part in (entries[:half], entries[half:]) for it in self._from_server(part, blocks, reasons)]
 
     def _with_texts(self, entries: Sequence[Entry], blocks: bool, reasons: bool) -> list[Entry]:
         """The entries with the texts of their blocks, and what these wait for, if that is wanted."""

@@ -113,7 +113,8 @@ _NAMES = {
     "Untyped": "`retry` and `throw` return nothing that could be bound",
     "WaitingFull": "as many blocks wait as may (65,536, or what a server allows): finish or cancel some",
     # Of a server (docs/SERVER.md):
-    "AnswersFull": "the server keeps more answers for this connection than it may: calls that wait hold none back, so this is a fault",
+    "AnswersFull": "the answers before this one in its batch have as many bytes as a server makes for one request: ask for less in one batch",
+    "ShareFull": "as many blocks of this connection wait as a server allows one: finish or cancel some, or wait for some",
     "RequestTooLong": "a batch over a connection is one request, and is longer than the server takes: make it smaller",
     "RequestsFull": "this connection has as many calls under way as the server allows: wait for some, or open another one",
     "Waits": "`settle` and `drain` don't say what they finish, and a block of `atomically` waits on the server",

@@ -7,15 +7,19 @@ names of files, or on who leads. So replicas that are given the same entries giv
 from __future__ import annotations
 
 import asyncio
+import fcntl
 import hashlib
 import json
-from collections import deque
-from collections.abc import Iterable, Sequence
+import os
+from collections import Counter, deque
+from collections.abc import Callable, Iterable, Sequence
 from contextlib import suppress
 from dataclasses import dataclass, field
 from typing import Any
 
 from ._numbers import Numbers, Range
+
+Lines = list[bytes]
 
 # Commands that change nothing, and those that may. A question that is the first command ends the declarations all the same.
 QUESTIONS = {
@@ -30,7 +34,9 @@ WAITS = {b"wait", b"waitas"}
 SUBMISSIONS = {b"submit", b"atomically", *WAITS}
 # How the last line of an answer of many lines begins.
 LAST = {b"store": b"cells ", b"show": b"waiting ", b"board": b"waiting ", b"events": b"events "}
-MARK = b"try return ()"  # a question whose answer begins with no brace: it ends a history
+MARK = b"try return ()"  # a question whose answer begins with no brace: it ends a history, so it is always answered
+# Questions whose answers grow with the desk.
+LONG = {b"history", b"declared", *LAST}
 NUMBER_OF_EVENTS = b"events 4294967295"
 
 LINE = 65_536  # bytes of a line
@@ -41,8 +47,10 @@ SESSIONS = 4096
 REQUESTS = 4096  # of one session that are under way
 KEPT = 1 << 18  # bytes of an answer that is kept until it is acknowledged; a longer one is given once
 STORED = 1 << 24  # bytes of all such answers of one session
+ANSWER = 1 << 23  # bytes of the answer to a request after which its further lines are refused
+PIECE = 1024  # cost of the lines of a request that are given to the program in one go; the last one may go beyond that
+FULL: Lines = [b"refused AnswersFull"]
 
-Lines = list[bytes]
 Done = tuple[str, int, "Lines | bytes"]  # the session, the number of its request, and the answer; bytes are the refusal of the whole
 
 
@@ -74,6 +82,27 @@ def weight(lines: Iterable[bytes]) -> int:
     return size
 
 
+def cost(its: bytes | None) -> int:
+    """How much of a piece a line with this command takes. An answer that grows with the desk is looked at before the next line is given;
+    64 other questions have some 6 MB at most, as the program's lines and those of blocks are bounded."""
+    return PIECE if its in LONG else PIECE // 64 if its in QUESTIONS else 1
+
+
+def share(waiting: int) -> int:
+    """How many of as many waiting blocks one session may have, if nothing else is given."""
+    return max(waiting // 8, min(waiting, 64))
+
+
+def asked(lines: Iterable[bytes]) -> int:
+    """The cost of the questions in a request."""
+    return sum(cost(its) for its in map(word, lines) if its in QUESTIONS)
+
+
+def size(answer: Lines) -> int:
+    """Its bytes, with line feeds."""
+    return sum(map(len, answer)) + len(answer)
+
+
 class Console:
     """The program `stmdesk run`, for one user at a time."""
 
@@ -83,10 +112,23 @@ class Console:
         self._rest = b""
         self._lock = asyncio.Lock()
         self._process: asyncio.subprocess.Process | None = None
+        self._input: asyncio.WriteTransport
 
     async def start(self) -> Console:
-        pipe = asyncio.subprocess.PIPE
-        self._process = await asyncio.create_subprocess_exec(*self.command, stdin=pipe, stdout=pipe, start_new_session=True)
+        # A pipe, where asyncio may take a socket: whether its other end is open can be seen by others (`Holder.is_left`).
+        reading, writing = os.pipe()
+        file = os.fdopen(writing, "wb", 0)
+        try:
+            with suppress(OSError, AttributeError):  # it holds a request as a whole, if that may be
+                fcntl.fcntl(file, fcntl.F_SETPIPE_SZ, REQUEST)
+            pipe = asyncio.subprocess.PIPE
+            self._process = await asyncio.create_subprocess_exec(*self.command, stdin=reading, stdout=pipe, start_new_session=True)
+            self._input, _ = await asyncio.get_running_loop().connect_write_pipe(asyncio.BaseProtocol, file)
+        except BaseException:
+            file.close()
+            raise
+        finally:
+            os.close(reading)
         return self
 
     async def run(self, lines: Sequence[bytes]) -> list[Lines]:
@@ -94,9 +136,8 @@ class Console:
         `Ended`."""
         words = [word(it) for it in lines]
         async with self._lock:
-            assert self._process and self._process.stdin
             ends = {b"history": b"\n" + MARK + b"\n"}
-            self._process.stdin.write(b"".join([it + ends.get(its or b"", b"\n") for it, its in zip(lines, words)]))
+            self._input.write(b"".join([it + ends.get(its or b"", b"\n") for it, its in zip(lines, words)]))
             return [await self._answer(it) for it in words]
 
     async def _answer(self, its: bytes | None) -> Lines:
@@ -125,17 +166,20 @@ class Console:
             self._lines.extend(whole)
         return self._lines.popleft()
 
-    async def close(self) -> int:
-        """Ends the program's input, and waits for it. Returns its exit status."""
+    async def close(self, patience: float | None = None) -> int:
+        """Ends the program's input, and waits for it; after so many seconds it is killed. Returns its exit status."""
         if not self._process:
             return 0
+        try:
+            return await asyncio.wait_for(self._close(self._process), patience)
+        except asyncio.TimeoutError:
+            self.kill()
+            return await self._process.wait()
+
+    async def _close(self, process: asyncio.subprocess.Process) -> int:
         async with self._lock:
-            assert self._process.stdin
-            self._process.stdin.close()
-            status = await self._process.wait()
-            with suppress(OSError):  # it may have ended before it had read all
-                await self._process.stdin.wait_closed()
-            return status
+            self._input.close()
+            return await process.wait()
 
     def kill(self) -> None:
         if self._process and self._process.returncode is None:
@@ -145,15 +189,23 @@ class Console:
 class Request:
     """A request that is under way or whose answer isn't acknowledged: the answer of each line, None while that isn't there."""
 
-    __slots__ = ("lost", "size", "slots")
+    __slots__ = ("is_over", "left", "lost", "made", "size", "slots")
 
     def __init__(self, slots: list[Lines | None], *, lost: bool = False) -> None:
         self.slots = slots
-        self.lost = lost  # whether the answer was too long to be kept
+        self.left = slots.count(None)
+        self.is_over = False  # whether the answer was given
+        self.lost = lost  # whether it was too long to be kept
+        self.made = 0  # bytes of the program's answers to its lines so far
         self.size = 0  # bytes of an answer that is kept
 
+    def fill(self, place: int, answer: Lines) -> None:
+        if self.slots[place] is None:
+            self.slots[place] = answer
+            self.left -= 1
+
     def is_answered(self) -> bool:
-        return all(it is not None for it in self.slots)
+        return not self.left
 
 
 @dataclass
@@ -183,8 +235,9 @@ class Given:
 class Machine:
     """A desk with the sessions that use it, and the blocks that wait for one of them."""
 
-    def __init__(self, console: Console, max_waiting: int = WAITING) -> None:
-        self.console, self.max_waiting = console, max_waiting
+    def __init__(self, console: Console, max_waiting: int = WAITING, max_answer: int = ANSWER, max_waiting_each: int | None = None) -> None:
+        self.console, self.max_waiting, self.max_answer = console, max_waiting, max_answer
+        self.max_waiting_each = max_waiting_each or share(max_waiting)
         self.next: int | None = 1  # the next ticket, if that is known
         self.is_declaring, self.declared_size = True, 0
         self.declared: Lines = []  # `#0 x : Int`
@@ -195,8 +248,11 @@ class Machine:
         self.unnamed: dict[int, bytes] = {}  # by ticket: labels of waits that their blocks haven't got yet
         self.waiting: dict[int, bytes] = {}  # all tickets that wait, with their blocks as far as they are known
         self.owned: dict[int, str] = {}  # by ticket: the session with which a submitted block ends
+        self.held: dict[int, str] = {}  # by ticket: the session whose share it takes, if that hasn't ended
+        self.holds: Counter[str] = Counter()  # how many that are, by session
         self.unwanted: set[int] = set()  # tickets to cancel
         self.chain = b"\0" * 32  # the SHA-256 of all answers so far
+        self._digest: Any = None  # of the answers since then
         self.is_full = False  # whether rounds had to stop, since the history is full
         self.done: list[Done] = []
         # What only reports use.
@@ -204,6 +260,7 @@ class Machine:
         self.counts = {"events": 0, "finished": 0, "evaluations": 0, "cancelled": 0, "checkpoints": 0}
         self.since = 0  # events since the last checkpoint
         self._submissions = self._new_waits = 0  # in the script that isn't given yet
+        self._submitted: Counter[str] = Counter()  # the first of these, by session
 
     async def begin(self, *, has_texts: bool = True) -> Machine:
         """For a desk that may go on from a file. With texts of the blocks that wait it reads the history."""
@@ -226,10 +283,29 @@ class Machine:
         """Whether a request may change something, be it that it ends the declarations. A word that isn't known here counts as a change."""
         return self.is_declaring or any(its is not None and its not in QUESTIONS for its in map(word, lines))
 
-    async def ask(self, lines: Sequence[bytes]) -> list[Lines]:
-        """The answers to questions, once the declarations have ended."""
-        asked = [it for it in lines if len(it) <= LINE and word(it) != b"declared"]
-        answers = iter(await self.console.run(asked))
+    async def ask(self, lines: Sequence[bytes], is_wanted: Callable[[], bool] = lambda: True) -> list[Lines]:
+        """The answers to questions, once the declarations have ended. Once they have too many bytes the rest is refused. If they aren't
+        wanted any more it ends, with the answers so far."""
+        found: list[Lines] = []
+        made = 0
+        while len(found) < len(lines) and is_wanted():
+            if made > self.max_answer:
+                rest = lines[len(found) :]
+                marks = iter(await self._asked([it for it in rest if it == MARK]))
+                return [*found, *(next(marks) if it == MARK else FULL for it in rest)]
+            few: Lines = []
+            cost_of_few = 0
+            while len(found) + len(few) < len(lines) and cost_of_few < PIECE:
+                few.append(lines[len(found) + len(few)])
+                cost_of_few += cost(word(few[-1]))
+            answers = await self._asked(few)
+            made += sum(map(size, answers))
+            found += answers
+        return found
+
+    async def _asked(self, lines: Lines) -> list[Lines]:
+        given = [it for it in lines if len(it) <= LINE and word(it) != b"declared"]
+        answers = iter(await self.console.run(given))
         return [
             [b"refused LineTooLong"] if len(it) > LINE else self._declarations(it, False) if word(it) == b"declared" else next(answers)
             for it in lines
@@ -285,6 +361,8 @@ class Machine:
         self.unwanted |= tickets
         await self._cancel()
         if is_whole:
+            for it in [it for it, owner in self.held.items() if owner == name] if self.holds[name] else ():
+                self._release(it)
             del self.sessions[name]
 
     async def _cancel(self) -> None:
@@ -316,19 +394,28 @@ class Machine:
         elif session.stored > STORED:
             self.done.append((name, number, b"AnswersFull"))
         else:
-            session.requests[number] = Request([[] if word(it) is None else None for it in lines])
+            request = session.requests[number] = Request([[] if word(it) is None else None for it in lines])
+            given = 0  # the cost of its lines that the program hasn't answered
             for place, line in enumerate(lines):
-                if word(line) in SUBMISSIONS and len(self.waiting) + self._submissions >= self.max_waiting:
+                its = word(line)
+                if its is None:
+                    continue
+                if given >= PIECE:
+                    await self._give(script)
+                    given = 0
+                if request.made > self.max_answer and line != MARK:
+                    request.fill(place, FULL)
+                    continue
+                if its in SUBMISSIONS and (self._is_full() or self._has_its_share(name)):
                     await self._flush(script)  # some of the blocks in the script may end at once
-                self._line(line, (name, number, place), session.requests[number].slots, script)
-                if word(line) == b"declare" and self.is_declaring:
+                self._line(line, (name, number, place), request, script)
+                given += cost(its)
+                if its == b"declare" and self.is_declaring:
                     await self._flush(script)  # it ends the declarations, unless the program has no such command
             self._answered(name, number)
 
-    def _line(self, line: bytes, where: Where, slots: list[Lines | None], script: list[Given]) -> None:
+    def _line(self, line: bytes, where: Where, request: Request, script: list[Given]) -> None:
         its = word(line)
-        if its is None:
-            return
         label = b""
         if its == b"wait":
             line = b"submit " + line.strip(b"\t\r ")[5:]
@@ -337,39 +424,69 @@ class Machine:
             label = rest.replace(b"\t", b" ").replace(b"\r", b" ").split(b" ", 1)[0]
             its, line = b"wait", b"submit " + rest[len(label) :].lstrip(b"\t\r ")
             if not is_label(label):
-                slots[where[2]] = [b"refused Argument"]
+                request.fill(where[2], [b"refused Argument"])
                 return
         if len(line) > LINE:
-            slots[where[2]] = [b"refused LineTooLong"]
+            request.fill(where[2], [b"refused LineTooLong"])
             return
         if its in (b"settle", b"drain") and (self.waits or self._new_waits):
-            slots[where[2]] = [b"refused Waits"]  # it wouldn't say what it finishes
+            request.fill(where[2], [b"refused Waits"])  # it wouldn't say what it finishes
             return
-        if its in SUBMISSIONS and len(self.waiting) + self._submissions >= self.max_waiting:
-            slots[where[2]] = [b"refused WaitingFull"]
+        if its in SUBMISSIONS and self._is_full():
+            request.fill(where[2], [b"refused WaitingFull"])
+            return
+        if its in SUBMISSIONS and self._has_its_share(where[0]):
+            request.fill(where[2], [b"refused ShareFull"])
             return
         if its == b"tvar" and self.is_declaring:
             self.declared_size += len(line)
             if self.declared_size > DECLARED:
-                slots[where[2]] = [b"refused TableFull"]
+                request.fill(where[2], [b"refused TableFull"])
                 return
         elif its in QUESTIONS and its != b"declared" or its in CHANGES and its not in (b"tvar", b"declare"):
             self.is_declaring = False
-        kind = {b"wait": "wait", b"declared": "declared"}.get(its, "line")
+        kind = {b"wait": "wait", b"declared": "declared"}.get(its or b"", "line")
         script.append(Given(line, kind, where, int(kind == "declared" and self.is_declaring), label))
         if its == b"wait" and self.next is not None:
             # At most this ticket. If a submission before it is refused, this one isn't given yet, and the rounds try the right one.
             ticket = self.next + self._submissions
             script += [Given(b"eval", "eval"), Given(b"finish %d" % ticket, "finish", None, ticket)]
         self._submissions += its in SUBMISSIONS
+        self._submitted[where[0]] += its in SUBMISSIONS
         self._new_waits += its == b"wait"
+
+    def _is_full(self) -> bool:
+        """Whether as many blocks wait as may, if all in the script wait."""
+        return len(self.waiting) + self._submissions >= self.max_waiting
+
+    def _has_its_share(self, name: str) -> bool:
+        """The same of the blocks of a session."""
+        return self.holds[name] + self._submitted[name] >= self.max_waiting_each
+
+    def _hold(self, ticket: int, name: str) -> None:
+        self.held[ticket] = name
+        self.holds[name] += 1
+
+    def _release(self, ticket: int) -> None:
+        name = self.held.pop(ticket, None)
+        if name is not None:
+            self.holds[name] -= 1
+            if not self.holds[name]:
+                del self.holds[name]
 
     async def _flush(self, script: list[Given]) -> None:
         """Gives the lines to the program, looks at the answers, and clears the script."""
+        await self._give(script)
+        if self._digest:
+            self.chain, self._digest = self._digest.digest(), None
+
+    async def _give(self, script: list[Given]) -> None:
+        """The same with a part of the lines, so that the chain doesn't depend on what the parts are."""
         if not script:
             return
         answers = await self.console.run([b"" if it.kind == "declared" else it.line for it in script])
-        digest, was_settled = hashlib.sha256(self.chain), False
+        digest = self._digest = self._digest or hashlib.sha256(self.chain)
+        was_settled = False
         for given, answer in zip(script, answers):
             if given.kind == "declared":
                 answer = self._declarations(given.line, bool(given.ticket))
@@ -384,8 +501,10 @@ class Machine:
             self.waiting = {it: self.waiting.get(it, b"") for it in (int(line.split(b" ", 1)[0]) for line in shown[:-1])}
             self.owned = {it: owner for it, owner in self.owned.items() if it in self.waiting}
             self.labels = {it: label for it, label in self.labels.items() if it in self.waiting}
-        self.chain = digest.digest()
+            for ticket in [it for it in self.held if it not in self.waiting]:
+                self._release(ticket)
         self._submissions = self._new_waits = 0
+        self._submitted.clear()
         script.clear()
 
     async def _refused(self, given: Given, answer: Lines) -> None:
@@ -401,6 +520,7 @@ class Machine:
         elif given.kind == "own" and name == b"NoTicket":  # it was a cancel
             self.unwanted.discard(given.ticket)
             self.owned.pop(given.ticket, None)
+            self._release(given.ticket)
         elif given.kind != "finish":
             return
         elif name in (b"Stale", b"NotEvaluated"):  # somebody took it
@@ -422,6 +542,8 @@ class Machine:
                 self._fill(given.where, answer)
                 return
             self.waiting[ticket] = given.line.strip(b"\t\r ")[len(given.word) :].strip(b"\t\r ")
+            if given.where and given.where[0] in self.sessions:
+                self._hold(ticket, given.where[0])
             if given.kind == "wait" and given.where:
                 self.waits[ticket] = given.where
                 self.due.add(ticket)
@@ -490,6 +612,7 @@ class Machine:
     def _over(self, ticket: int, answer: Lines) -> None:
         self.due.discard(ticket)
         self.owned.pop(ticket, None)
+        self._release(ticket)
         self.waiting.pop(ticket, None)
         self.labels.pop(ticket, None)
         self.unnamed.pop(ticket, None)
@@ -501,17 +624,19 @@ class Machine:
         session = self.sessions.get(where[0]) if where else None
         request = session.requests.get(where[1]) if session and where else None
         if where and request and request.slots[where[2]] is None:
-            request.slots[where[2]] = answer
+            request.fill(where[2], answer)
+            request.made += size(answer)
             self._answered(where[0], where[1])
 
     def _answered(self, name: str, number: int) -> None:
         """Sends the answer to a request, if all its lines have one, and keeps it if it isn't too long."""
         session = self.sessions[name]
         request = session.requests[number]
-        if not request.is_answered():
+        if request.is_over or not request.is_answered():
             return
+        request.is_over = True
         self._tell(name, number)
-        request.size = sum(len(it) + 1 for slot in request.slots for it in slot or ())
+        request.size = sum(size(it) for it in request.slots if it)
         if request.size > KEPT:
             request.slots, request.lost, request.size = [], True, 0
         session.stored += request.size
@@ -543,6 +668,7 @@ class Machine:
             "next": self.next, "chain": self.chain.hex(), "due": sorted(self.due), "waits": [[it, *self.waits[it]] for it in sorted(self.waits)],
             "owned": [[it, self.owned[it]] for it in sorted(self.owned)], "unwanted": sorted(self.unwanted), "sessions": sessions, "counts": self.counts,
             "unnamed": [[it, self.unnamed[it].decode()] for it in sorted(self.unnamed)],
+            "held": [[it, self.held[it]] for it in sorted(self.held)],
         }  # fmt: skip
 
     def load(self, table: dict[str, Any]) -> None:
@@ -551,6 +677,9 @@ class Machine:
         self.waits = {ticket: (name, number, place) for ticket, name, number, place in table["waits"]}
         self.owned, self.unwanted = dict(table["owned"]), set(table["unwanted"])
         self.unnamed = {ticket: label.encode() for ticket, label in table.get("unnamed", ())}
+        owners = [*self.owned.items(), *((it, where[0]) for it, where in self.waits.items())]
+        self.held = dict(table.get("held", owners))  # none in a snapshot of an earlier version
+        self.holds = Counter(self.held.values())
         self.counts, self.sessions, self.since = dict(table["counts"]), {}, 0
         for name, it in table["sessions"].items():
             session = self.sessions[name] = Session({}, Numbers(it["acknowledged"]), it["keeps"])
@@ -558,5 +687,6 @@ class Machine:
                 lines = [None if slot is None else [line.encode("latin-1") for line in slot] for slot in slots]
                 request = session.requests[int(number)] = Request(lines, lost=lost)
                 if request.is_answered():
-                    request.size = sum(len(line) + 1 for slot in lines for line in slot or ())
+                    request.is_over = True
+                    request.size = sum(size(it) for it in lines if it)
                 session.stored += request.size

@@ -22,7 +22,7 @@ from typing import Any
 
 from ._etcd import Access, Away, Etcd, delete, encoded, put, to_prefix
 from ._machine import Console, Done, Ended, Lines, Machine
-from ._serve import STOPPING, Connection, Item, Limits, Server, declarations
+from ._serve import CLOSING, STOPPING, Connection, Item, Limits, Server, declarations, lock_file, out_of_memory
 
 LEASE = 3  # seconds
 EVERY = 100_000  # events between checkpoints
@@ -104,7 +104,7 @@ class Replica(Server):
     def lock_folder(self) -> None:
         """Raises OSError."""
         self.folder.mkdir(parents=True, exist_ok=True, mode=0o700)
-        self._folder_lock = os.open(self.folder / "lock", os.O_CREAT | os.O_RDWR | os.O_CLOEXEC, 0o600)
+        self._folder_lock = lock_file(str(self.folder / "lock"))
         try:
             fcntl.flock(self._folder_lock, fcntl.LOCK_EX | fcntl.LOCK_NB)
         except BlockingIOError:
@@ -482,14 +482,16 @@ class Replica(Server):
                 await self.stop()
             if tasks[0].done():
                 await tasks[0]
+        except MemoryError:
+            out_of_memory()
         finally:
             for task in tasks:
                 task.cancel()
+            _, left = await asyncio.wait(tasks, timeout=self.left() - CLOSING if self.is_stopping else None)
+            if left:  # the program doesn't answer what it was given
+                self.machine.console.kill()
             await asyncio.gather(*tasks, return_exceptions=True)
-            for connection in list(self.open):
-                connection.cut()
-            if self.tasks:
-                await asyncio.wait(self.tasks, timeout=STOPPING)
+            await self.cut_all()
 
     async def work(self) -> None:
         self.say("follows")
@@ -507,9 +509,7 @@ class Replica(Server):
 
     async def stop(self) -> None:
         """Answers what has come, and lets another one lead at once. Sessions go on there."""
-        self.is_stopping = True
-        if self._listener:
-            self._listener.close()
+        self.begin_to_stop()
         was_leading = self.is_leading
         self.wake.set()
         end = time.monotonic() + STOPPING

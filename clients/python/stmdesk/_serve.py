@@ -6,7 +6,9 @@ import asyncio
 import errno
 import fcntl
 import logging
+import math
 import os
+import select
 import shutil
 import socket
 import stat
@@ -16,16 +18,23 @@ from collections import Counter, deque
 from collections.abc import Callable, Sequence
 from contextlib import suppress
 from dataclasses import dataclass
-from typing import Any
+from typing import Any, NoReturn
 
-from ._machine import LINE, REQUEST, REQUESTS, WAITING, WAITS, Console, Done, Ended, Lines, Machine, weight, word
+from ._locks import holder_of
+from ._machine import (
+    ANSWER, LINE, PIECE, REQUEST, REQUESTS, WAITING, WAITS, Console, Done, Ended, Lines, Machine, asked, size, weight, word,
+)  # fmt: skip
 from ._numbers import Numbers
 from ._program import is_locked
 
 GROUP = 1 << 18  # weight of a group, after which no further request is taken into it
-AHEAD = 1 << 16  # lines of a plain connection that are read and not given
+AHEAD = 1 << 21  # weight of the lines of one connection that are read and in no group; then nothing more of it is read
 ACKS = 5000  # ranges of numbers that one request acknowledges at most
+ACCEPTED = 8  # connections that are accepted in one go
+PAUSE = 1.0  # seconds between two looks whether the peer of a connection of which nothing is read is there
 STOPPING = 2.0  # seconds that connections have to read their last answers
+GONE = 10.0  # seconds after which a server that was stopped is gone, whatever its clients and its program do
+CLOSING = 3.0  # of them, for its connections and its program
 PATH_LENGTH = 107  # bytes of the path of a unix socket
 FIRST_TRIES = (0.1, 0.2, 0.5, 1.0, 2.0)  # seconds between tries to start on a journal that is in use
 
@@ -40,6 +49,18 @@ class Limits:
     request: int = REQUEST  # weight
     unread: int = 8 << 20  # bytes of answers that a peer hasn't read when another one comes
     waiting: int = WAITING
+    waiting_each: int | None = None  # of one session; `share` of all of them if nothing else is given
+    answer: int = ANSWER  # bytes of the answer to a request after which its further lines are refused
+
+    def machine(self, console: Console) -> Machine:
+        return Machine(console, self.waiting, self.answer, self.waiting_each)
+
+
+def out_of_memory() -> NoReturn:
+    """Ends the process: after an allocation that failed nobody knows what of a call was done. What was answered is in the journal, and the
+    program ends with its input."""
+    os.write(2, b"stmdesk-serve: out of memory\n")
+    os._exit(1)
 
 
 class Connection:
@@ -51,11 +72,12 @@ class Connection:
         self.is_framed = self.is_begun = self.is_busy = self.is_ended = self.is_cut = False
         self.is_once = False  # whether the session ends with this connection
         self.is_leaving = False  # whether the session was ended
-        self.lines: deque[bytes] = deque()  # of a plain connection, that weren't given yet
+        self.lines: deque[tuple[bytes, int]] = deque()  # of a plain connection, that weren't given yet, with their weights
         self.number = 0  # of a plain connection's request
         self.head: tuple[int, Numbers] | None = None  # of a request whose lines are being read
         self.body: Lines = []
         self.body_weight = self.body_left = 0  # what its lines weigh, and how many are to come
+        self.ahead = 0  # what all lines weigh that are in no group
         self.flight: set[int] = set()  # requests that aren't answered
         self.held = Numbers()  # acknowledged by requests that weren't logged
         self.room = asyncio.Event()
@@ -76,9 +98,13 @@ class Connection:
                     return
             if len(rest) > LINE + 1:
                 rest, is_long = b"", True
-            while len(self.lines) > AHEAD and not self.is_cut:  # then nothing more is read of this peer
+            while self.ahead > AHEAD and not self.is_gone():
                 self.room.clear()
-                await self.room.wait()
+                with suppress(asyncio.TimeoutError):
+                    await asyncio.wait_for(self.room.wait(), PAUSE)
+                if is_left(self.writer):
+                    self.cut()
+                    return
         if is_long or len(rest) > LINE:
             rest = b"x" * (LINE + 1)
         if rest and not self.is_framed:
@@ -97,7 +123,10 @@ class Connection:
         elif not self.is_framed:
             if not self.is_begun:
                 self.join(self.session, ["open", *(["keep"] if self.server.keep else [])])
-            self.lines.append(line)
+                if self.is_cut:
+                    return
+            self.lines.append((line, weight([line])))
+            self.ahead += self.lines[-1][1]
             self.pump()
         elif self.head:
             self.body_weight += weight([line])
@@ -145,6 +174,9 @@ class Connection:
             self.cut()
 
     def join(self, name: str, words: Sequence[str]) -> None:
+        if self.server.is_stopping:
+            self.refuse("Stopping")
+            return
         self.session, self.is_begun = name, True
         old = self.server.connections.get(name)
         self.server.connections[name] = self
@@ -153,22 +185,41 @@ class Connection:
         self.server.put([words[0], name, *words[1:]])
 
     def pump(self) -> None:
-        """Of a plain connection one request is under way; a `wait` is one by itself. The end of the input cancels it if it can't finish."""
+        """Of a plain connection one request is under way; a `wait` is one by itself. The end of the input cancels it if it can't finish.
+        Questions in it are one piece at most, so that requests of others come in between."""
         if self.is_framed or not self.is_begun or self.is_cut:
             return
-        if not self.is_busy and self.lines:
-            lines = [self.lines.popleft()]
-            size = weight(lines)
-            is_wait = word(lines[0]) in WAITS
-            while self.lines and not is_wait and (size := size + weight([self.lines[0]])) <= self.server.limits.request:
-                if word(self.lines[0]) in WAITS:
-                    break
-                lines.append(self.lines.popleft())
-            self.is_busy, self.number = True, self.number + 1
-            self.request(self.number, Numbers([[1, self.number - 1]] if self.number > 1 else ()), lines, weight(lines))
+        if self.is_gone():  # nobody would get the answers
+            self.lines.clear()
             self.room.set()
+        if not self.is_busy and self.lines:
+            lines: Lines = []
+            weighs = questions = 0
+            while self.lines and questions < PIECE:
+                line, more = self.lines[0]
+                if lines and (weighs + more > self.server.limits.request or word(line) in WAITS):
+                    break
+                self.lines.popleft()
+                lines.append(line)
+                weighs += more
+                if word(line) in WAITS:
+                    break
+                questions += asked([line])
+            self.is_busy, self.number = True, self.number + 1
+            self.ahead -= weighs  # `request` adds it again
+            self.request(self.number, Numbers([[1, self.number - 1]] if self.number > 1 else ()), lines, weighs)
         if self.is_ended:
             self.server.put(["drop", self.session] if self.is_busy else ["end", self.session])
+
+    def is_gone(self) -> bool:
+        """Whether no answer comes to the peer any more."""
+        return self.is_cut or self.writer.transport.is_closing()
+
+    def taken(self, size: int) -> None:
+        """A request of this session that weighs as much is in a group."""
+        self.ahead = max(0, self.ahead - size)  # it may have come over an earlier connection
+        if self.ahead <= AHEAD:
+            self.room.set()
 
     def request(self, number: int, acks: Numbers, lines: Lines, size: int) -> None:
         if size > self.server.limits.request and self.is_framed:
@@ -177,6 +228,7 @@ class Connection:
             self.answer(number, b"RequestsFull")
         else:
             self.flight.add(number)
+            self.ahead += size
             if self.server.machine.is_logged(lines):
                 for low, high in self.held.ranges:
                     acks.add(low, high)
@@ -191,9 +243,8 @@ class Connection:
         self.flight.discard(number)
         if isinstance(lines, bytes):
             self.write((b"@%d refused %s\n" % (number, lines)) if self.is_framed else b"refused %s\n" % lines)
-        else:
-            text = b"".join([it + b"\n" for it in lines])
-            self.write(b"@%d %d\n%s" % (number, len(lines), text) if self.is_framed else text if number else b"")
+        elif number or self.is_framed:
+            self.write(b"\n".join([*([b"@%d %d" % (number, len(lines))] if self.is_framed else ()), *lines, b""]))
         if not self.is_framed:
             self.is_busy = self.is_busy and not number
             self.pump()
@@ -260,6 +311,8 @@ class Server:
         self.checkpoint_every = 0  # events after which this server makes a checkpoint, 0 for never
         self.own_checkpoints = 0  # events after which the program makes one by itself, 0 for never
         self.is_stopping = False
+        self.ending: set[str] = set()  # sessions that end since it is stopping
+        self.gone_at = math.inf  # when it must have ended, by this process's clock
         self.refused: Counter[str] = Counter()  # connections, by reason
         self.groups, self.grouped, self.seconds = 0, 0, 0.0
         self.on_group: list[Callable[[], None]] = []
@@ -301,20 +354,29 @@ class Server:
     def note(self, what: str, connection: Connection | None = None) -> None:
         """Writes a line about a connection into the log, but no more than one a second."""
         self.refused[what] += 1
+        self.warn(f"{peer(connection.writer) if connection else 'a peer'} {what}: its connection is ended")
+
+    def warn(self, text: str) -> None:
         now = time.monotonic()
         if now - self._noted < 1:
             self._unnoted += 1
             return
-        who = peer(connection.writer) if connection else "a peer"
         more = f" (and {self._unnoted} more lines like this)" if self._unnoted else ""
-        log.warning("%s %s: its connection is ended%s", who, what, more)
+        log.warning("%s%s", text, more)
         self._noted, self._unnoted = now, 0
+
+    def trouble(self, _: asyncio.AbstractEventLoop, context: dict[str, Any]) -> None:
+        """What asyncio does with an error that nothing has caught, such as that of an `accept`."""
+        error = context.get("exception")
+        if isinstance(error, MemoryError):
+            out_of_memory()
+        self.warn(f"{context.get('message', 'an error')}: {type(error).__name__}: {error}" if error else str(context.get("message")))
 
     def lock_path(self) -> None:
         """So that no two servers have one socket: asyncio removes a socket that is there, another server's too. Raises OSError, also if
         what is there isn't a socket that a killed server has left."""
         check_path(self.path)
-        self._locked = os.open(f"{self.path}.lock", os.O_CREAT | os.O_RDWR | os.O_CLOEXEC, 0o600)
+        self._locked = lock_file(f"{self.path}.lock")
         try:
             fcntl.flock(self._locked, fcntl.LOCK_EX | fcntl.LOCK_NB)
             if is_listened_on(self.path):
@@ -328,25 +390,41 @@ class Server:
 
     async def listen(self, given: socket.socket | None = None) -> None:
         """Listens on the path, or on a socket that the service manager has opened."""
-        more: dict[str, Any] = {"backlog": self.limits.connections}
+        more: dict[str, Any] = {"backlog": ACCEPTED}
         if sys.version_info >= (3, 13):
             more["cleanup_socket"] = False  # that of a service manager is its own, and `close_path` removes the other
+        taken = given or self.bound()
+        self._listener = await asyncio.start_unix_server(self.connected, sock=taken, **more)
+        taken.listen(self.limits.connections)  # so many may wait to be accepted
         if given:
-            self._listener = await asyncio.start_unix_server(self.connected, sock=given, **more)
             return
-        before = os.umask(0o777)  # nobody can connect before it has its group and its mode
-        try:
-            self._listener = await asyncio.start_unix_server(self.connected, self.path, **more)
-        finally:
-            os.umask(before)
         self._own = identity(self.path)
         if self.group is not None:
             shutil.chown(self.path, group=self.group)
         os.chmod(self.path, self.mode)
 
+    def bound(self) -> socket.socket:
+        """A socket at the path, in place of one that a killed server has left. Raises OSError."""
+        found = socket.socket(socket.AF_UNIX, socket.SOCK_STREAM)
+        before = os.umask(0o777)  # nobody can connect before it has its group and its mode
+        try:
+            check_path(self.path)
+            with suppress(FileNotFoundError):
+                os.unlink(self.path)
+            found.bind(self.path)
+        except OSError as error:
+            found.close()
+            raise OSError(error.errno, error.strerror, self.path) if error.errno else error
+        finally:
+            os.umask(before)
+        return found
+
     async def connected(self, reader: asyncio.StreamReader, writer: asyncio.StreamWriter) -> None:
         connection = Connection(self, reader, writer)
-        if self.is_stopping or len(self.open) >= self.limits.connections:
+        if self.is_stopping:
+            connection.refuse("Stopping")
+            return
+        if len(self.open) >= self.limits.connections:
             self.note("finds all connections taken", connection)
             connection.refuse("ConnectionsFull")
             return
@@ -357,6 +435,8 @@ class Server:
             task.add_done_callback(self.tasks.discard)
         try:
             await connection.serve()
+        except MemoryError:
+            out_of_memory()
         except OSError:
             connection.is_ended = True
             connection.lines.clear()
@@ -398,9 +478,13 @@ class Server:
         later change of the same session."""
         items: list[Item] = []
         questions: list[Item] = []
-        asking, size = set(), 0
-        while self.queue and size < GROUP:
+        asking, weighs, long = set(), 0, 0
+        while self.queue and weighs < GROUP and long < PIECE:
             kind, session, *rest = self.queue[0]
+            if kind == "open" and self.is_stopping and (connection := self.connections.get(session)):
+                self.queue.popleft()
+                connection.refuse("Stopping")
+                continue
             if kind == "req" and not self.machine.is_logged(rest[2]) and session in self.machine.sessions:
                 questions.append(self.queue.popleft())
                 asking.add(session)
@@ -408,7 +492,13 @@ class Server:
                 break
             else:
                 items.append(self.queue.popleft())
-            size += 64 + (24 * len(rest[1]) + weight(rest[2]) if kind == "req" else 0)
+                long += asked(rest[2]) if kind == "req" else 0  # all answers to them are made before one is sent
+            weighs += 64
+            if kind == "req":
+                of_lines = weight(rest[2])
+                weighs += 24 * len(rest[1]) + of_lines
+                if connection := self.connections.get(session):
+                    connection.taken(of_lines)
         return items, questions
 
     async def serve(self) -> None:
@@ -430,14 +520,38 @@ class Server:
                 await self.after_group()
                 for it in self.on_group:
                     it()
-            if self.is_stopping and not self.queue:
+                if self.is_stopping:
+                    self.end_all()
+            if self.is_stopping:
                 return
 
     async def answer(self, questions: list[Item]) -> None:
-        lines = [it for q in questions for it in q[4] if word(it) is not None]
-        answers = iter(await self.machine.ask(lines))
-        for _, session, number, _, asked in questions:
-            self.tell([(session, number, [line for it in asked if word(it) is not None for line in next(answers)])], [])
+        """Answers questions: as many requests in one go as are one piece, and each longer one by itself. What is left when they have made
+        as many bytes as the answer to one request may have comes first in the next group."""
+        many = deque((it, [line for line in it[4] if word(line) is not None]) for it in questions)
+        made = 0
+        while many and made <= self.limits.answer:
+            few = [many.popleft()]
+            costs = asked(few[0][1])
+            while many and costs + asked(many[0][1]) <= PIECE:
+                few.append(many.popleft())
+                costs += asked(few[-1][1])
+            session = few[0][0][1]
+            answers = deque(await self.machine.ask([line for it in few for line in it[1]], lambda: len(few) > 1 or self.is_heard(session)))
+            for (_, session, number, *_), lines in few:
+                is_whole = len(answers) >= len(lines)  # else its connection is gone
+                answer = [line for _ in lines for line in answers.popleft()] if is_whole else []
+                made += size(answer)
+                self.tell([(session, number, answer)], [])
+        for item, _ in reversed(many):
+            self.queue.appendleft(item)
+            if connection := self.connections.get(item[1]):
+                connection.ahead += weight(item[4])
+
+    def is_heard(self, session: str) -> bool:
+        """Whether an answer comes to the session's client now."""
+        connection = self.connections.get(session)
+        return connection is not None and not connection.is_gone()
 
     def tell(self, done: Sequence[Done], items: Sequence[Item]) -> None:
         for session, number, lines in done:
@@ -453,24 +567,30 @@ class Server:
     # The whole.
 
     async def start(self, program: str, options: Sequence[str], *, journal: str | None, declare: str | None) -> None:
-        """Starts the program, and declares what the file says if the desk is new. Raises `Ended` if the program doesn't start."""
-        was_free = False
+        """Starts the program, and declares what the file says if the desk is new. Raises `Ended` if the program doesn't start, and OSError if
+        another process has the journal."""
+        said = was_free = False
         for pause in (*FIRST_TRIES, None):
-            console = await Console(program, options).start()
-            try:
-                self.machine = await Machine(console, self.limits.waiting).begin(has_texts=self.keep)
-                break
-            except Ended:
-                if await console.close() != 1 or journal is None or pause is None:
-                    raise
-                # A desk whose server was killed has the journal until it has gone through the rest of its input. If nobody has it now, that
-                # may have ended just before; a second time it is something else, of which the program has said what.
-                if not is_locked(journal):
-                    if was_free:
+            if journal is None or not is_locked(journal):
+                console = await Console(program, options).start()
+                try:
+                    self.machine = await self.limits.machine(console).begin(has_texts=self.keep)
+                    break
+                except Ended:
+                    # If nobody has the journal now, whoever had it may have ended just before; a second time it is something else, of which
+                    # the program has said what.
+                    if await console.close() != 1 or journal is None or pause is None or was_free:
                         raise
-                    was_free = True
-                log.info("trying again to start on %s", journal)
-                await asyncio.sleep(pause)
+                    was_free = not is_locked(journal)
+                    continue
+            holder = holder_of(journal)
+            # The program of a server that was killed has the journal until it has gone through the rest of its input.
+            if pause is None or holder is None or not holder.is_left():
+                raise OSError(f"{journal}: in use by {holder or 'another process'}")
+            if not said:
+                log.info("%s: waiting for %s, whose server has ended", journal, holder)
+                said = True
+            await asyncio.sleep(pause)
         try:
             if declare and self.machine.is_declaring:
                 await self.machine.apply(await declarations(program, declare))
@@ -487,33 +607,51 @@ class Server:
         ending = asyncio.ensure_future(self.end_lost())
         stopping = asyncio.ensure_future(stop.wait())
         try:
-            await asyncio.wait((serving, stopping), return_when=asyncio.FIRST_COMPLETED)
-            if not serving.done():
+            await asyncio.wait((serving, ending, stopping), return_when=asyncio.FIRST_COMPLETED)
+            if not serving.done() and not ending.done():
                 await self.stop()
-            await serving
+                await asyncio.wait((serving,), timeout=self.left() - CLOSING)
+                if not serving.done():
+                    log.warning("stopped before all calls were answered")
+            for it in (serving, ending):
+                if it.done():
+                    it.result()
+        except MemoryError:
+            out_of_memory()
         finally:
             for task in (ending, stopping, serving):
                 task.cancel()
             await asyncio.gather(ending, stopping, serving, return_exceptions=True)
-            for connection in list(self.open):
-                connection.cut()
-            if self.tasks:
-                await asyncio.wait(self.tasks, timeout=STOPPING)
+            await self.cut_all()
 
     async def stop(self) -> None:
-        """Has all sessions end, so that each waiting call is answered, and takes no more connections."""
-        self.is_stopping = True
+        """Takes no more connections, and has all sessions end, so that each waiting call is answered."""
+        self.begin_to_stop()
+        self.end_all()
+        self.wake.set()
+
+    def begin_to_stop(self) -> None:
+        self.is_stopping, self.gone_at = True, time.monotonic() + GONE
         if self._listener:
             self._listener.close()
-        writers = [it.writer for it in self.open]
-        for session in list(self.machine.sessions):
-            self.put(["end", session])
-        self.wake.set()
-        end = time.monotonic() + STOPPING
-        while self.queue or any(it.transport.get_write_buffer_size() for it in writers if not it.transport.is_closing()):
-            if time.monotonic() > end:
-                break
-            await asyncio.sleep(0.01)
+
+    def end_all(self) -> None:
+        """Has each session end that isn't ending. One may have begun in the group that was under way when the server was stopped."""
+        for session in self.machine.sessions:
+            if session not in self.ending:
+                self.ending.add(session)
+                self.put(["end", session])
+
+    def left(self) -> float:
+        """The seconds until the server must be gone."""
+        return max(0.0, self.gone_at - time.monotonic())
+
+    async def cut_all(self) -> None:
+        """Ends all connections; those whose sessions have ended have some time to read their last answers."""
+        for connection in list(self.open):
+            connection.cut()
+        if self.tasks:
+            await asyncio.wait(self.tasks, timeout=STOPPING)
 
     def close_path(self) -> None:
         """Removes the socket, if it is this server's."""
@@ -523,6 +661,16 @@ class Server:
                     os.unlink(self.path)
             os.close(self._locked)
             self._locked = -1
+
+
+def lock_file(path: str) -> int:
+    """A descriptor of a file to lock, which is made if it isn't there. Raises OSError, also if it is a link."""
+    try:
+        return os.open(path, os.O_CREAT | os.O_RDWR | os.O_CLOEXEC | os.O_NOFOLLOW, 0o600)
+    except OSError as error:
+        if error.errno == errno.ELOOP:
+            raise OSError(f"{path}: a link is there") from None
+        raise
 
 
 def check_path(path: str) -> None:
@@ -574,6 +722,16 @@ async def declarations(program: str, path: str) -> list[Item]:
     finally:
         await console.close()
     return [["open", ""], ["req", "", 1, [], [*lines, b"take 0"]], ["end", ""]]
+
+
+def is_left(writer: asyncio.StreamWriter) -> bool:
+    """Whether the other end of a connection is closed in both directions."""
+    found = writer.get_extra_info("socket")
+    poll = select.poll()
+    if found is None or found.fileno() < 0:
+        return True
+    poll.register(found.fileno(), 0)
+    return bool(poll.poll(0))
 
 
 def peer(writer: asyncio.StreamWriter) -> str:

@@ -6,8 +6,9 @@ import asyncio
 import html
 import importlib
 import json
+import re
 import secrets
-from collections.abc import Iterator
+from collections.abc import Iterator, Mapping
 from contextlib import suppress
 from typing import Any
 
@@ -162,10 +163,12 @@ class Web:
         self._seen = begin + len(events) - 2
         self._events = [*self._events, *((str(begin + at), it.decode()) for at, it in enumerate(events[:-1]))][-EVENTS:]
         found["events"] = self._events[::-1]
+        names = dict(it.decode().split(" ", 2)[:2] for it in machine.declared)
         for ticket, (why, *_) in zip(tickets, rest):
             words = why.decode().split(" ")
             if words[0] == "why":
-                found["board"].append({"ticket": ticket, "state": words[2], "why": " ".join(words[3:]), **self._of(ticket)})
+                text = named(" ".join(words[3:]), names)
+                found["board"].append({"ticket": ticket, "state": words[2], "why": text, **self._of(ticket)})
         found["boardMore"] = max(0, len(tickets) - ROWS)
         if not self._is_large:
             cells = rest[-1][:-1]
@@ -229,6 +232,11 @@ async def _send(writer: asyncio.StreamWriter, status: str, kind: str, text: byte
     more += "Referrer-Policy: no-referrer\r\nX-Content-Type-Options: nosniff\r\nConnection: close\r\n\r\n"
     writer.write((head + more).encode() + text)
     await writer.drain()
+
+
+def named(text: str, names: Mapping[str, str]) -> str:
+    """The text with the name after each number of a declared variable, as `#0 x`."""
+    return re.sub(r"#\d+", lambda found: f"{found[0]} {names[found[0]]}" if found[0] in names else found[0], text)
 
 
 def _cell(line: str) -> list[str]:

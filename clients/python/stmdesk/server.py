@@ -14,6 +14,7 @@ import errno
 import grp
 import logging
 import os
+import resource
 import shutil
 import signal
 import socket
@@ -22,16 +23,18 @@ from collections.abc import Sequence
 from contextlib import suppress
 from pathlib import Path
 
+from . import __version__
 from ._commands import decimal
 from ._etcd import Access, context_of
-from ._machine import WAITING, Ended
+from ._machine import ANSWER, WAITING, Ended
 from ._program import check_built, find_program, raise_stack_limit
 from ._replica import EVERY, LEASE, Differs, NoCheckpoint, Replica
-from ._serve import Limits, Server
-from ._web import Web, host_and_port
+from ._serve import Limits, Server, out_of_memory
+from ._web import CONNECTIONS, Web, host_and_port
 
 CHECKPOINT = 500_000  # events
 FIRST_FILE = 3  # that a service manager gives
+FILES = 32  # that a server has open beside its connections, at most
 
 log = logging.getLogger("stmdesk.server")
 
@@ -42,6 +45,7 @@ def parser() -> argparse.ArgumentParser:
         description="A desk for several processes, behind a unix socket.", epilog="docs/SERVER.md and docs/REPLICAS.md have the whole.",
     )  # fmt: skip
     add = found.add_argument
+    add("--version", action="version", version=f"%(prog)s {__version__}")
     add("socket", metavar="SOCKET", nargs="?", help="the path of the socket; none if a service manager gives one")
     add("--program", metavar="PATH", help="the program stmdesk; else the one that the package finds")
     add("--declare", metavar="FILE", help="lines `tvar NAME : TYPE = INIT`, for a desk that is new")
@@ -54,7 +58,9 @@ def parser() -> argparse.ArgumentParser:
     add("--group", metavar="GROUP", type=_group, help="of the socket")
     add("--max-connections", metavar="N", type=_number, default=Limits.connections, help="default %(default)s")
     add("--max-waiting", metavar="N", type=_number, default=WAITING, help="blocks that wait (default %(default)s)")
+    add("--max-waiting-each", metavar="N", type=_number, help="of these, of one session (default an eighth)")
     add("--max-request", metavar="BYTES", type=_number, default=Limits.request, help="of a request, such as a batch (default %(default)s)")
+    add("--max-answer", metavar="BYTES", type=_number, default=ANSWER, help="of the answer to a request; then its rest is refused (default %(default)s)")
     add("--max-unread", metavar="BYTES", type=_number, default=Limits.unread, help="of answers that a peer hasn't read (default %(default)s)")
     add("--replicas", metavar="HOST:PORT,..", type=_nodes, help="nodes of etcd with the log of several servers (docs/REPLICAS.md)")
     add("--name", metavar="NAME", help="of this replica")
@@ -128,22 +134,33 @@ def tell_manager(text: str) -> None:
             it.send(text.encode())
 
 
-async def webs(server: Server, words: argparse.Namespace) -> list[Web]:
-    """The live page and the figures that were asked for. Raises OSError, ValueError and ImportError."""
-    found = []
-    for what, address in (("page", words.http), ("metrics", words.metrics)):
-        if address:
-            found.append(Web(server, what))
-            at = await found[-1].listen(address)
-            if what == "page":
-                print(f"the live page: {at}", flush=True)
-            else:
-                log.info("figures for Prometheus: %s", at)
-    return found
+def webs(server: Server, words: argparse.Namespace) -> list[Web]:
+    """The live page and the figures that were asked for. Raises ValueError, and ImportError if what they need isn't there."""
+    for it in (words.http, words.metrics):
+        if it:
+            host_and_port(it)
+    return [Web(server, what) for what, address in (("page", words.http), ("metrics", words.metrics)) if address]
+
+
+async def listen(pages: Sequence[Web], words: argparse.Namespace) -> None:
+    """Raises OSError."""
+    for it in pages:
+        at = await it.listen(words.http if it.what == "page" else words.metrics)
+        if it.what == "page":
+            print(f"the live page: {at}", flush=True)
+        else:
+            log.info("figures for Prometheus: %s", at)
 
 
 def limits(words: argparse.Namespace) -> Limits:
-    return Limits(words.max_connections, words.max_request, words.max_unread, words.max_waiting)
+    """Those of the words; fewer connections if this process may have fewer files."""
+    may, _ = resource.getrlimit(resource.RLIMIT_NOFILE)
+    others = FILES + (FILES if words.replicas else 0) + sum(CONNECTIONS + 1 for it in (words.http, words.metrics) if it)
+    connections = words.max_connections
+    if may != resource.RLIM_INFINITY and connections > may - others:
+        connections = max(1, may - others)
+        log.warning("at most %d connections, since this process may have %d files open (ulimit -n)", connections, may)
+    return Limits(connections, words.max_request, words.max_unread, words.max_waiting, words.max_waiting_each, words.max_answer)
 
 
 def replica(words: argparse.Namespace, program: str, path: str) -> Replica:
@@ -172,6 +189,7 @@ async def serve(words: argparse.Namespace, program: str) -> None:
         await serve_replica(words, replica(words, program, path), given, stop)
         return
     server = Server(path, grace=words.grace, keep=words.keep, limits=limits(words), mode=words.mode, group=words.group)
+    loop.set_exception_handler(server.trouble)
     options = []
     if words.journal:
         every = words.checkpoint_every or CHECKPOINT
@@ -179,13 +197,13 @@ async def serve(words: argparse.Namespace, program: str) -> None:
         server.own_checkpoints = every
     else:
         server.checkpoint_every = words.checkpoint_every or CHECKPOINT
+    pages = webs(server, words)
     if given is None:
         server.lock_path()
-    pages: list[Web] = []
     try:
         await server.start(program, options, journal=words.journal, declare=words.declare)
         try:
-            pages = await webs(server, words)
+            await listen(pages, words)
             await server.listen(given)
             kept = f"the journal {words.journal}" if words.journal else "memory alone"
             log.info("started on %s, process %d, with %s", path, os.getpid(), kept)
@@ -196,7 +214,7 @@ async def serve(words: argparse.Namespace, program: str) -> None:
             tell_manager("STOPPING=1")
             for it in pages:
                 it.close()
-            status = await server.machine.console.close()
+            status = await server.machine.console.close(server.left() if server.is_stopping else None)
             if status:
                 log.error("the program ended with status %d", status)
     finally:
@@ -205,9 +223,10 @@ async def serve(words: argparse.Namespace, program: str) -> None:
 
 async def serve_replica(words: argparse.Namespace, server: Replica, given: socket.socket | None, stop: asyncio.Event) -> None:
     """The same for a replica."""
+    asyncio.get_running_loop().set_exception_handler(server.trouble)
+    pages = webs(server, words)
     if given is None:
         server.lock_path()
-    pages: list[Web] = []
     try:
         server.lock_folder()
         begun, stopped = asyncio.ensure_future(server.start_replica()), asyncio.ensure_future(stop.wait())
@@ -217,7 +236,7 @@ async def serve_replica(words: argparse.Namespace, server: Replica, given: socke
             return
         await begun
         try:
-            pages = await webs(server, words)
+            await listen(pages, words)
             await server.listen(given)
             log.info("started on %s, process %d, as replica %s", server.path, os.getpid(), server.name)
             tell_manager("READY=1")
@@ -227,7 +246,7 @@ async def serve_replica(words: argparse.Namespace, server: Replica, given: socke
             tell_manager("STOPPING=1")
             for it in pages:
                 it.close()
-            await server.machine.console.close()
+            await server.machine.console.close(server.left() if server.is_stopping else None)
     finally:
         server.close_path()
 
@@ -241,8 +260,8 @@ def main(arguments: Sequence[str] | None = None) -> int:
         found.error("--sync goes with --journal")
     if words.replicas and not (words.name and words.folder):
         found.error("--replicas goes with --name and --folder")
-    if words.replicas and (words.journal or words.max_waiting != WAITING):
-        found.error("--journal and --max-waiting don't go with --replicas: the log has the desk, and all replicas answer alike")
+    if words.replicas and (words.journal or words.max_waiting != WAITING or words.max_waiting_each or words.max_answer != ANSWER):
+        found.error("--journal, --max-waiting.. and --max-answer don't go with --replicas: the log has the desk, and all replicas answer alike")
     if not words.replicas and (words.name or words.folder):
         found.error("--name and --folder go with --replicas")
     logging.basicConfig(level=logging.INFO, format="stmdesk-serve: %(message)s", stream=sys.stderr)
@@ -260,6 +279,8 @@ def main(arguments: Sequence[str] | None = None) -> int:
     except Ended:
         log.error("the program has ended, and the server with it")
         return 1
+    except MemoryError:
+        out_of_memory()
     except Differs as why:
         log.error("this replica differs, and stops: %s", why)
         return 5
