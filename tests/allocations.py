@@ -127,19 +127,23 @@ def as_wanted(case):
     return judge
 
 
-def sweeps(program, calls, library, cases, scripts):
-    def sweep(name, run, case, judge, judge_first=None):
-        if case.is_large:
-            return Sweep(name, run, library, case, some, judge, judge_first, "chosen allocation")
-        return Sweep(name, run, library, case, numbers, judge, judge_first, "allocation", ends_unmet=True)
+def sweep(name, run, library, case, judge, judge_first=None):
+    if case.is_large:
+        return Sweep(name, run, library, case, some, judge, judge_first, "chosen allocation")
+    return Sweep(name, run, library, case, numbers, judge, judge_first, "allocation", ends_unmet=True)
 
+
+def sweeps_of_program(program, library, cases):
     for case in cases:
         judge = ends_early_or_other(case) if case.events_are_open else ends_early
-        yield sweep(f"stmdesk on {case.name}", program, case, judge, as_wanted(case))
+        yield sweep(f"stmdesk on {case.name}", program, library, case, judge, as_wanted(case))
     for form in FORMS:
-        yield sweep(f"stmdesk on words {form}", program, words.of(form), ends_early)
+        yield sweep(f"stmdesk on words {form}", program, library, words.of(form), ends_early)
+
+
+def sweeps_of_calls(calls, library, scripts):
     for case in scripts:
-        yield sweep(f"calls of {case.name}, made again", calls, case, makes_again, as_wanted(case))
+        yield sweep(f"calls of {case.name}, made again", calls, library, case, makes_again, as_wanted(case))
         if not case.only_again:
             once = prefixed(case, b"memory once\n")
-            yield sweep(f"calls of {case.name}, left at that", calls, once, Left(calls, library, once), as_wanted(case))
+            yield sweep(f"calls of {case.name}, left at that", calls, library, once, Left(calls, library, once), as_wanted(case))

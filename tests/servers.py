@@ -156,7 +156,7 @@ class Counts:
     """Runs tests, and counts."""
 
     def __init__(self, part=""):
-        self.part, self.passed, self.failed = part, 0, 0
+        self.part, self.passed, self.failed, self.skipped = part, 0, 0, 0
 
     def run(self, tests, *arguments):
         import tempfile
@@ -169,14 +169,22 @@ class Counts:
                 with tempfile.TemporaryDirectory(prefix="stmdesk-", ignore_cleanup_errors=True) as folder:
                     try:
                         said = test(*arguments, pathlib.Path(folder))
-                        self.passed += 1
-                        print(f"{name}{f': {said}' if said else ''} ({time.monotonic() - begin:.1f} s)", flush=True)
+                        if said and "skipped" in said:
+                            self.skip(f"{name}: {said}")
+                        else:
+                            self.passed += 1
+                            print(f"{name}{f': {said}' if said else ''} ({time.monotonic() - begin:.1f} s)", flush=True)
                     except Exception:
                         self.failed += 1
                         print(f"failed: {name}\n{traceback.format_exc()}", flush=True)
                         for log in sorted(pathlib.Path(folder).glob("*.log")):
                             print(f"{log.name}: {log.read_text(errors='replace')[-1500:]}", flush=True)
 
+    def skip(self, said):
+        """Counts what can't be tried, or only in part."""
+        self.skipped += 1
+        print(f"skipped: {said}", flush=True)
+
     def end(self):
-        print(f"{self.passed} passed, {self.failed} failed", flush=True)
+        print(f"{self.passed} passed, {self.failed} failed" + (f", {self.skipped} skipped" if self.skipped else ""), flush=True)
         return 1 if self.failed or not self.passed else 0
