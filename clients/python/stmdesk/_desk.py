@@ -128,11 +128,18 @@ class Desk:
 
     @classmethod
     def _over(cls: type[D], transport: Transport, patience: float) -> D:
-        """A desk over a transport that is there."""
+        """A desk over a transport that is there, and that ends if none can be made."""
         desk = cls.__new__(cls)
         desk._begin(transport, patience)
-        desk._take_over()
+        try:
+            desk._begin_over()
+        except BaseException:
+            transport.kill()
+            raise
         return desk
+
+    def _begin_over(self) -> None:
+        self._take_over()
 
     def _take_over(self) -> None:
         """Takes over the variables that a server's desk has. Raises what a call raises."""
@@ -885,8 +892,12 @@ class Desk:
                 raise copy(self._transport.end)
             if self._transport.is_new:
                 self._transport.is_new = False
-                self._answers.forget()
-                self._exchange((Answer(DECLARED),), None)
+                try:
+                    self._answers.forget()
+                    self._exchange((Answer(DECLARED),), None)
+                except BaseException:
+                    self._transport.is_new = True
+                    raise
             if self._under_way:
                 self._mend()
             if answers:
