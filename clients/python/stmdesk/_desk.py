@@ -20,7 +20,7 @@ from ._commands import (
     READS, READY, SETTLE, SHOW, STORE, SUBMIT, TAKE, TRY, TVAR, WAITING, WHY, Answer, Command, checked_label, decimal, labelling, number_of,
     ticket_of,
 )  # fmt: skip
-from ._errors import BadAnswer, Cancelled, DeskError, OutOfMemory, Refused, Thrown, TimedOut
+from ._errors import BadAnswer, Cancelled, DeskError, OtherType, OutOfMemory, Refused, Thrown, TimedOut
 from ._local import begin_local
 from ._program import Process, check_built, find_program, is_ours
 from ._transport import Closed, Odd, Transport, AtomicBlocks
@@ -121,6 +121,7 @@ class Desk:
         self._waits: AtomicBlocks | None = None  # there is none before the first `atomically`
         self._beginning = threading.Lock()  # so that two threads don't begin it
         self._is_resumed = False
+        self._is_kept = transport.is_shared  # whether an event outlives this process, perhaps
         self._dropped = 0
         self._under_way: Sequence[Answer[Any]] = ()  # whose answers the transport keeps, and which aren't all read
         self._inherited: set[int] = set()  # tickets that waited when the journal was opened, and may still wait
@@ -150,6 +151,7 @@ class Desk:
 
     def _open_journal(self, process: Process) -> None:
         """Waits until the program has opened its journal, and takes over the variables that it has. Raises what a call raises."""
+        self._is_kept = True
         with self._calls:
             # A `tvar` of nothing is refused in any case: as `Late` if the desk goes on from a history.
             opened = Answer(TVAR)
@@ -522,9 +524,10 @@ class Desk:
 
     def variable(self, declaration: str) -> Ref:
         """The variable of a declaration: the one that has been declared with this name and this type, here or in the journal, or
-        else a new one, as by `tvar`, or by `declare` if it is too late for that. So a program that keeps a journal begins in the same way
-        at each start, and a new release of it may have more variables. The type of one that is there can't change: that is refused as
-        `tvar` refuses it.
+        else a new one. So a program that keeps a journal begins in the same way at each start, and a new release of it may have more
+        variables. With a journal and at a server this declares by `declare`, since that is an event, and so is kept once it was answered;
+        then `tvar` comes too late. Otherwise it declares by `tvar`, or by `declare` if it is too late for that. The type of a variable
+        that is there can't change: then this raises `OtherType`.
 
         >>> desk.variable("x : Int = 0"), desk.variable("y : Int = 0")
         (Ref(0, 'x'), Ref(1, 'y'))
@@ -539,32 +542,32 @@ class Desk:
         found = self._found(declaration)
         if found is not None:
             return found
-        try:
-            return self.tvar(declaration)
-        except Refused as refused:
-            found = self._found_again(declaration, refused, "Late", "Twice")
-            if found is not None:
-                return found
-            if refused.name != "Late" or declaration.partition(":")[0].strip() in self._answers.named:
-                raise
-            late = refused
-        try:
-            return self.declare(declaration)
-        except Refused as refused:
-            if refused.name == "Command":  # of a program that knows no `declare`
-                raise late from None
-            found = self._found_again(declaration, refused, "Twice")
-            if found is not None:
-                return found
-            raise
+        why: Refused | None = None
+        for declares in (self.declare, self.tvar) if self._is_kept else (self.tvar, self.declare):
+            try:
+                return declares(declaration)
+            except Refused as refused:
+                found = self._found_again(declaration, refused, "Late", "Twice")
+                if found is not None:
+                    return found
+                if refused.name not in ("Late", "Command"):  # `tvar` comes too late, or the program knows no `declare`
+                    raise
+                if why is None or refused.name == "Late":
+                    why = refused
+        assert why is not None
+        raise why
 
     def _found(self, declaration: str) -> Ref | None:
-        """The variable of this declaration, if it is known."""
-        name, _, rest = declaration.partition(":")
-        found = self._answers.named.get(name.strip())
-        if found is not None and _one_text(rest.partition("=")[0]) == _one_text(self._answers.types[name.strip()]):
-            return found
-        return None
+        """The variable of this declaration, if it is known. Raises `OtherType`."""
+        before, _, rest = declaration.partition(":")
+        name, kind = before.strip(), rest.partition("=")[0]
+        found = self._answers.named.get(name)
+        if found is None or not kind.strip():
+            return None
+        declared = self._answers.types[name]
+        if _one_text(kind) != _one_text(declared):
+            raise OtherType(name, declared, " ".join(kind.split()), declaration.lstrip())
+        return found
 
     def _found_again(self, declaration: str, refused: Refused, *names: str) -> Ref | None:
         """The same after a refusal. If that has one of these names, another client of the server may have declared the variable."""

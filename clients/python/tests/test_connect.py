@@ -12,7 +12,7 @@ import time
 import unittest
 from unittest import mock
 
-from stmdesk import DeskClosed, OutcomeUnknown, Ref, _session, aio, connect
+from stmdesk import DeskClosed, OtherType, OutcomeUnknown, Ref, _session, aio, connect
 from stmdesk._numbers import Numbers
 
 from .common import SECONDS, InThreads, needs_process
@@ -267,6 +267,49 @@ class SilentServer(AtServers):
             self.assertEqual(variable.result(SECONDS), Ref(0, "x"))
             it.close()
             desk.close()
+
+
+class Variables(AtServers):
+    def test_a_variable_is_an_event(self):
+        """So that a journal of the server keeps it once it is answered."""
+        server = self.listen()
+        desk, it = self.connected(server)
+        for declaration, answers, wanted in (
+            ("x : Int = 0", ["declared #0 x"], Ref(0, "x")),
+            ("y : Int = 0", ["refused Command", "tvar #1 y"], Ref(1, "y")),  # of a program that knows no `declare`
+            ("z : Int = 0", ["refused Command", "refused Late"], "Late"),
+            ("z : Int = w", ["refused Unknown 8"], "Unknown"),
+        ):
+            call = self.begin(desk.variable, declaration)
+            for word, answer in zip(("declare", "tvar"), answers):
+                number, lines = it.request()
+                self.assertEqual(lines, [f"{word} {declaration}"])
+                it.answer(number, answer)
+                if answer == "refused Late":  # has somebody else declared it?
+                    number, lines = it.request()
+                    self.assertEqual(lines, ["declared"])
+                    it.answer(number, "#0 x : Int", "#1 y : Int", "declared 2 late")
+            if isinstance(wanted, Ref):
+                self.assertEqual(call.result(SECONDS), wanted)
+            else:
+                self.assert_refused(call.result, wanted, *([8] if wanted == "Unknown" else []))
+        it.close()
+        desk.close()
+
+    def test_a_variable_of_another_type(self):
+        """Somebody else has declared it since."""
+        server = self.listen()
+        desk, it = self.connected(server)
+        call = self.begin(desk.variable, "x : Bool = True")
+        number, lines = it.request()
+        it.answer(number, "refused Twice")
+        number, lines = it.request()
+        self.assertEqual(lines, ["declared"])
+        it.answer(number, "#0 x : TVar Int", "declared 1 late")
+        with self.assertRaisesRegex(OtherType, "^x is declared as TVar Int, and not as Bool\n"):
+            call.result(SECONDS)
+        it.close()
+        desk.close()
 
 
 class OfAsyncio(AtServers):
