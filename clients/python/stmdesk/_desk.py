@@ -8,7 +8,9 @@ import threading
 from collections.abc import Iterable, Iterator, Sequence
 from contextlib import suppress
 from copy import copy
+from functools import partial
 from os import getpid
+from select import PIPE_BUF
 from threading import get_ident
 from types import TracebackType
 from typing import Any, Literal, NoReturn, TypeVar, get_args
@@ -124,6 +126,8 @@ class Desk:
         self._is_kept = transport.is_shared  # whether an event outlives this process, perhaps
         self._dropped = 0
         self._under_way: Sequence[Answer[Any]] = ()  # whose answers the transport keeps, and which aren't all read
+        self._cut: Wait | None = None  # whose block is run over a pipe, or was when an exception broke that off
+        self._marks = 0  # that were given to find out what the program had answered then
         self._inherited: set[int] = set()  # tickets that waited when the journal was opened, and may still wait
         self._transport = transport
 
@@ -604,7 +608,7 @@ class Desk:
         timeout = checked_timeout(timeout)
         wait = Wait(block, None if label is None else checked_label(label))
         waits: AtomicBlocks | None = None
-        if not transport.keeps_answers:
+        if not transport.keeps_answers and not self._is_for_pipe(wait):
             waits = self._begin_waits()
             wait.hold()
         is_late = False
@@ -618,6 +622,8 @@ class Desk:
                 waits.give_up(wait, withdraw=False)
                 wait.acquire()
         except BaseException:
+            if waits is None and not transport.keeps_answers and wait.ticket is not None and self._cut is not wait:
+                waits = self._waits  # which has the block already
             if waits is None:
                 self._take_back(wait)
             else:
@@ -629,11 +635,20 @@ class Desk:
             raise TimedOut(timeout)
         return wait.outcome()
 
+    def _is_for_pipe(self, wait: Wait) -> bool:
+        """Whether `_run_over_pipe` can run the block. A label is a second command, which nothing may break off."""
+        if not isinstance(self._transport, Process) or len(wait.run.sent) > PIPE_BUF:
+            return False
+        return wait.label is None or threading.current_thread() is not threading.main_thread()
+
     def _try_here(self, wait: Wait) -> AtomicBlocks | None:
-        """Runs a block by a call of this thread, which is enough if the transport keeps answers. Ends the wait, or returns what waits for
-        it from now on."""
+        """Runs a block by a call of this thread, which is enough if the transport keeps answers, or the line is short. Ends the wait, or
+        returns what waits for it from now on."""
         with self._calls:
-            self._run_here(wait.run)
+            if self._transport.keeps_answers:
+                self._run_here(wait.run)
+            else:
+                self._run_over_pipe(wait)
             refused = wait.run.error
             if refused is not None:
                 if isinstance(refused, Refused) and refused.name == "HistoryFull" and self._waits:
@@ -645,6 +660,7 @@ class Desk:
                 waits = self._begin_waits()
                 wait.hold()
                 waits.adopt(wait, done.ticket)
+                self._cut = None
                 for naming in wait.naming():
                     self._perform((naming,), waits)
                     try:
@@ -689,10 +705,113 @@ class Desk:
         finally:
             self._caller = 0
 
+    def _run_over_pipe(self, wait: Wait) -> None:
+        """Does what `_run` does for a block, so that a signal handler may break it off anywhere: `_cut` then has it. Needs the lock."""
+        run, transport = wait.run, self._transport
+        assert isinstance(transport, Process)
+        if self._is_closed:
+            raise ValueError("the desk is closed")
+        said = ""
+        try:
+            self._caller = get_ident()
+            if transport.end is not None:
+                raise copy(transport.end)
+            if self._cut is not None:
+                self._mend_cut()
+            self._cut = wait
+            if transport.give(run.sent):
+                said = transport.next()
+                self._read_run(run, said)
+                if self._waits is not None:
+                    self._waits.see((run,))
+                transport.take_last()
+                if not isinstance(run.value, Waiting):
+                    self._cut = None
+                return
+            self._cut = None
+        except BaseException as error:
+            self._cut_off(error, run, said)
+            raise
+        finally:
+            self._caller = 0
+        self._perform((run,), self._waits)  # the program has printed what it shouldn't
+
+    def _read_run(self, run: Answer[Finished | FinishedThrows | Waiting], said: str) -> None:
+        words = said.split(" ")
+        if words[0] == "refused":
+            run.error = self._answers.refusal(words, ATOMICALLY.word, run.text.lstrip())
+        else:
+            run.value = self._answers.ran(words)
+        if self._answers.first is None:
+            self._answers.note(ATOMICALLY.word, run.text, run.value if run.error is None else run.error)
+
+    def _cut_off(self, error: BaseException, run: Answer[Any], said: str) -> None:
+        """An error has come while a block was run over a pipe. Ends the program, and raises why, if it is one of the program."""
+        is_of_program = isinstance(error, (Closed, Odd))
+        if is_of_program or isinstance(error, (ValueError, LookupError, TypeError)) and is_ours(error):
+            self._cut = None
+            why = self._broken(error, run.sent, said)
+            if why is not None:
+                raise why from None
+
+    def _mend_cut(self) -> None:
+        """Ends the call of `atomically` that an exception broke off: reads its answer, if there is one, and cancels its block if that
+        waits. An exception may break this off, too; then the next call does it. Needs the lock.
+
+        A line to which the answer is known says where the answer to the block would be: before it, if the block was given and its answer
+        not taken. `_run_over_pipe` has kept an answer that was taken.
+        """
+        wait, transport = self._cut, self._transport
+        assert wait is not None and isinstance(transport, Process)
+        run, said = wait.run, ""
+        try:
+            self._marks += 1
+            mark = f"commits writes none news none result {self._marks}"
+            if not transport.give(f"try return {self._marks}\n".encode()):
+                raise Odd("more lines than there should be")
+            while (said := transport.next()) != mark:
+                if not said.startswith("commits ") and not run.is_there():  # else it is an older mark
+                    self._read_run(run, said)
+                transport.take()
+            transport.take()
+        except BaseException as error:
+            self._cut_off(error, run, said)
+            raise
+        if run.error is None and run.is_there():
+            if self._waits is not None:
+                self._waits.see((run,))
+            if isinstance(run.value, Waiting):
+                self._exchange((Answer(CANCEL, str(run.value.ticket)),), self._waits)
+        self._cut = None
+        if not wait.is_over:
+            wait.end(error=Cancelled())
+
+    def _mend_now(self, wait: Wait) -> None:
+        """Ends a wait for which `_mend_cut` is to be called, unless that was done."""
+        with self._calls:
+            with suppress(DeskError):
+                self._perform(())
+            if self._cut is wait:
+                self._cut = None  # the desk has ended
+            if not wait.is_over:
+                wait.end(error=Cancelled())
+
     def _take_back(self, wait: Wait) -> None:
         """Ends a wait after an exception broke `_try_here` off. Cancels the block if it was run and waits."""
         if not self._transport.is_owner():
             wait.end(error=self._transport.not_owner())
+            return
+        if not self._transport.keeps_answers:
+            if self._cut is wait:
+                wait.hold()
+                try:
+                    let = self._begin_waits().helper.run  # whom no signal handler breaks off
+                except Exception:  # the desk has ended, or no thread can be started
+                    self._mend_now(wait)
+                else:
+                    let(partial(self._mend_now, wait))
+            elif not wait.is_over:
+                wait.end(error=Cancelled())
             return
         with self._calls:
             with suppress(DeskError):
@@ -819,6 +938,9 @@ class Desk:
 
     def _let_go(self) -> None:
         """Waits until blocks of `atomically` that were given up are cancelled, so that no journal has them."""
+        if self._cut is not None and not self._transport.end:
+            with self._calls, suppress(DeskError):
+                self._perform(())
         if self._waits is not None and not self._transport.end:
             self._waits.let_go(self._patience)
 
@@ -840,7 +962,7 @@ class Desk:
                 raise RuntimeError("a signal handler called the desk in the midst of another call")
             if self._is_closed:
                 raise ValueError("the desk is closed")
-            if command.is_seen and self._waits is not None:
+            if command.is_seen and self._waits is not None or self._cut is not None:
                 return self._ask_alone(command, text)
             said = ""
             try:
@@ -901,6 +1023,8 @@ class Desk:
                 except BaseException:
                     self._transport.is_new = True
                     raise
+            if self._cut is not None:
+                self._mend_cut()
             if self._under_way:
                 self._mend()
             if answers:
