@@ -220,8 +220,9 @@ def main(program: str | None = None, journal: str | None = None, events: str | N
     every = None if events is None else int(events)
     with Desk(program, journal=journal, checkpoint_every=every) as desk:
         engine = Engine(desk, None if journal is None else f"{journal}.notes")
+        declare = desk.variable if desk.is_resumed else desk.tvar  # so that a desk without a block has no event, as it has no notes
         for name in ("urgent", "normal", "taken"):
-            desk.variable(f"{name} : Int = 0")
+            declare(f"{name} : Int = 0")
         print("Two workers and a report, and no job yet:")
         engine.worker("ann")
         engine.worker("bob")

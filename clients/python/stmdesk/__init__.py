@@ -42,7 +42,7 @@ from ._commands import Answer
 from ._connect import connect
 from ._desk import Desk
 from ._errors import (
-    BadAnswer, Cancelled, DeskClosed, DeskError, Ended, JournalError, OutcomeUnknown, OutOfMemory, Refused, ScriptRefused, Stopped, Thrown,
+    BadAnswer, Cancelled, DeskClosed, DeskError, Ended, JournalError, OtherType, OutcomeUnknown, OutOfMemory, Refused, ScriptRefused, Stopped, Thrown,
     TimedOut,
 )  # fmt: skip
 from ._explore import ClientAt, ClientState, Exploration, LineWarning, Outcome, TraceStep, explore
@@ -60,7 +60,7 @@ __all__ = [
     "Answer", "BadAnswer", "Batch", "Blocks", "Cancellation", "Cancelled", "Cell", "Change", "Checked", "ClientAt", "ClientState", "Commits",
     "Current", "Declaration", "Delivery", "Desk", "DeskClosed", "DeskError", "Ended", "Entry", "Event", "Events", "Exploration", "Fault", "FinalCell",
     "FinalStore", "Finding",
-    "Finish", "Finished", "FinishedThrows", "Job", "JournalError", "Labelling", "LineWarning", "New", "NewRef", "OutOfMemory", "Outcome", "OutcomeUnknown", "Ready", "Reason",
+    "Finish", "Finished", "FinishedThrows", "Job", "JournalError", "Labelling", "LineWarning", "New", "NewRef", "OtherType", "OutOfMemory", "Outcome", "OutcomeUnknown", "Ready", "Reason",
     "Ref", "Refused", "ScriptRefused", "Settled", "Stale", "StaleBefore", "StaleBy", "Status", "Stopped", "Store", "Submission", "Thrown", "Throws",
     "TimedOut", "TraceStep", "Value", "Verdict", "Waiting", "Waits", "check", "connect", "do", "explore", "find_library",
     "find_program", "literal", "or_else",

@@ -28,8 +28,10 @@ def connect(*paths: Paths, reconnect: bool | None = None, patience: float = PATI
 
     It has all methods of a `Desk`. When the connection ends, the blocks that wait for it are cancelled; with `keep` those of `submit` go
     on waiting. A call whose answer doesn't come raises `OutcomeUnknown`, and calls after that raise `DeskClosed`. With `reconnect`, which
-    is on for several paths, the desk connects again, for at most `patience` seconds; then a call raises `OutcomeUnknown` only if the
-    server no longer knows of it, as after its end. Raises `DeskClosed` if there is no server.
+    is on for several paths, the desk connects again, for at most `patience` seconds after a connection broke; then a call raises
+    `OutcomeUnknown` only if the server no longer knows of it, as after its end. After `patience` seconds the desk gives up: what is under way
+    raises `DeskClosed`, or `OutcomeUnknown` if it was sent, and the next call tries again for as long. Raises `DeskClosed` if there is
+    no server, or one that doesn't answer within `patience` seconds.
 
     >>> import subprocess, sys, tempfile
     >>> path = tempfile.mkdtemp() + "/socket"
@@ -42,4 +44,7 @@ def connect(*paths: Paths, reconnect: bool | None = None, patience: float = PATI
     >>> server.terminate(), server.wait()
     (None, 0)
     """
-    return Desk._over(session(paths, reconnect, patience, keep, is_waiting=True), patience)
+    transport = session(paths, reconnect, patience, keep, is_waiting=True)
+    desk = Desk._over(transport, patience)
+    transport.has_desk = True
+    return desk

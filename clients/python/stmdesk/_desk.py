@@ -8,7 +8,9 @@ import threading
 from collections.abc import Iterable, Iterator, Sequence
 from contextlib import suppress
 from copy import copy
+from functools import partial
 from os import getpid
+from select import PIPE_BUF
 from threading import get_ident
 from types import TracebackType
 from typing import Any, Literal, NoReturn, TypeVar, get_args
@@ -20,7 +22,7 @@ from ._commands import (
     READS, READY, SETTLE, SHOW, STORE, SUBMIT, TAKE, TRY, TVAR, WAITING, WHY, Answer, Command, checked_label, decimal, labelling, number_of,
     ticket_of,
 )  # fmt: skip
-from ._errors import BadAnswer, Cancelled, DeskError, OutOfMemory, Refused, Thrown, TimedOut
+from ._errors import BadAnswer, Cancelled, DeskError, OtherType, OutOfMemory, Refused, Thrown, TimedOut
 from ._local import begin_local
 from ._program import Process, check_built, find_program, is_ours
 from ._transport import Closed, Odd, Transport, AtomicBlocks
@@ -121,18 +123,28 @@ class Desk:
         self._waits: AtomicBlocks | None = None  # there is none before the first `atomically`
         self._beginning = threading.Lock()  # so that two threads don't begin it
         self._is_resumed = False
+        self._is_kept = transport.is_shared  # whether an event outlives this process, perhaps
         self._dropped = 0
         self._under_way: Sequence[Answer[Any]] = ()  # whose answers the transport keeps, and which aren't all read
+        self._cut: Wait | None = None  # whose block is run over a pipe, or was when an exception broke that off
+        self._marks = 0  # that were given to find out what the program had answered then
         self._inherited: set[int] = set()  # tickets that waited when the journal was opened, and may still wait
         self._transport = transport
 
     @classmethod
     def _over(cls: type[D], transport: Transport, patience: float) -> D:
-        """A desk over a transport that is there."""
+        """A desk over a transport that is there, and that ends if none can be made."""
         desk = cls.__new__(cls)
         desk._begin(transport, patience)
-        desk._take_over()
+        try:
+            desk._begin_over()
+        except BaseException:
+            transport.kill()
+            raise
         return desk
+
+    def _begin_over(self) -> None:
+        self._take_over()
 
     def _take_over(self) -> None:
         """Takes over the variables that a server's desk has. Raises what a call raises."""
@@ -143,6 +155,7 @@ class Desk:
 
     def _open_journal(self, process: Process) -> None:
         """Waits until the program has opened its journal, and takes over the variables that it has. Raises what a call raises."""
+        self._is_kept = True
         with self._calls:
             # A `tvar` of nothing is refused in any case: as `Late` if the desk goes on from a history.
             opened = Answer(TVAR)
@@ -525,9 +538,10 @@ class Desk:
 
     def variable(self, declaration: str) -> Ref:
         """The variable of a declaration: the one that has been declared with this name and this type, here or in the journal, or
-        else a new one, as by `tvar`, or by `declare` if it is too late for that. So a program that keeps a journal begins in the same way
-        at each start, and a new release of it may have more variables. The type of one that is there can't change: that is refused as
-        `tvar` refuses it.
+        else a new one. So a program that keeps a journal begins in the same way at each start, and a new release of it may have more
+        variables. With a journal and at a server this declares by `declare`, since that is an event, and so is kept once it was answered;
+        then `tvar` comes too late. Otherwise it declares by `tvar`, or by `declare` if it is too late for that. The type of a variable
+        that is there can't change: then this raises `OtherType`.
 
         >>> desk.variable("x : Int = 0"), desk.variable("y : Int = 0")
         (Ref(0, 'x'), Ref(1, 'y'))
@@ -542,32 +556,32 @@ class Desk:
         found = self._found(declaration)
         if found is not None:
             return found
-        try:
-            return self.tvar(declaration)
-        except Refused as refused:
-            found = self._found_again(declaration, refused, "Late", "Twice")
-            if found is not None:
-                return found
-            if refused.name != "Late" or declaration.partition(":")[0].strip() in self._answers.named:
-                raise
-            late = refused
-        try:
-            return self.declare(declaration)
-        except Refused as refused:
-            if refused.name == "Command":  # of a program that knows no `declare`
-                raise late from None
-            found = self._found_again(declaration, refused, "Twice")
-            if found is not None:
-                return found
-            raise
+        why: Refused | None = None
+        for declares in (self.declare, self.tvar) if self._is_kept else (self.tvar, self.declare):
+            try:
+                return declares(declaration)
+            except Refused as refused:
+                found = self._found_again(declaration, refused, "Late", "Twice")
+                if found is not None:
+                    return found
+                if refused.name not in ("Late", "Command"):  # `tvar` comes too late, or the program knows no `declare`
+                    raise
+                if why is None or refused.name == "Late":
+                    why = refused
+        assert why is not None
+        raise why
 
     def _found(self, declaration: str) -> Ref | None:
-        """The variable of this declaration, if it is known."""
-        name, _, rest = declaration.partition(":")
-        found = self._answers.named.get(name.strip())
-        if found is not None and _one_text(rest.partition("=")[0]) == _one_text(self._answers.types[name.strip()]):
-            return found
-        return None
+        """The variable of this declaration, if it is known. Raises `OtherType`."""
+        before, _, rest = declaration.partition(":")
+        name, kind = before.strip(), rest.partition("=")[0]
+        found = self._answers.named.get(name)
+        if found is None or not kind.strip():
+            return None
+        declared = self._answers.types[name]
+        if _one_text(kind) != _one_text(declared):
+            raise OtherType(name, declared, " ".join(kind.split()), declaration.lstrip())
+        return found
 
     def _found_again(self, declaration: str, refused: Refused, *names: str) -> Ref | None:
         """The same after a refusal. If that has one of these names, another client of the server may have declared the variable."""
@@ -604,7 +618,7 @@ class Desk:
         timeout = checked_timeout(timeout)
         wait = Wait(block, None if label is None else checked_label(label))
         waits: AtomicBlocks | None = None
-        if not transport.keeps_answers:
+        if not transport.keeps_answers and not self._is_for_pipe(wait):
             waits = self._begin_waits()
             wait.hold()
         is_late = False
@@ -618,6 +632,8 @@ class Desk:
                 waits.give_up(wait, withdraw=False)
                 wait.acquire()
         except BaseException:
+            if waits is None and not transport.keeps_answers and wait.ticket is not None and self._cut is not wait:
+                waits = self._waits  # which has the block already
             if waits is None:
                 self._take_back(wait)
             else:
@@ -629,11 +645,20 @@ class Desk:
             raise TimedOut(timeout)
         return wait.outcome()
 
+    def _is_for_pipe(self, wait: Wait) -> bool:
+        """Whether `_run_over_pipe` can run the block. A label is a second command, which nothing may break off."""
+        if not isinstance(self._transport, Process) or len(wait.run.sent) > PIPE_BUF:
+            return False
+        return wait.label is None or threading.current_thread() is not threading.main_thread()
+
     def _try_here(self, wait: Wait) -> AtomicBlocks | None:
-        """Runs a block by a call of this thread, which is enough if the transport keeps answers. Ends the wait, or returns what waits for
-        it from now on."""
+        """Runs a block by a call of this thread, which is enough if the transport keeps answers, or the line is short. Ends the wait, or
+        returns what waits for it from now on."""
         with self._calls:
-            self._run_here(wait.run)
+            if self._transport.keeps_answers:
+                self._run_here(wait.run)
+            else:
+                self._run_over_pipe(wait)
             refused = wait.run.error
             if refused is not None:
                 if isinstance(refused, Refused) and refused.name == "HistoryFull" and self._waits:
@@ -645,6 +670,7 @@ class Desk:
                 waits = self._begin_waits()
                 wait.hold()
                 waits.adopt(wait, done.ticket)
+                self._cut = None
                 for naming in wait.naming():
                     self._perform((naming,), waits)
                     try:
@@ -689,10 +715,113 @@ class Desk:
         finally:
             self._caller = 0
 
+    def _run_over_pipe(self, wait: Wait) -> None:
+        """Does what `_run` does for a block, so that a signal handler may break it off anywhere: `_cut` then has it. Needs the lock."""
+        run, transport = wait.run, self._transport
+        assert isinstance(transport, Process)
+        if self._is_closed:
+            raise ValueError("the desk is closed")
+        said = ""
+        try:
+            self._caller = get_ident()
+            if transport.end is not None:
+                raise copy(transport.end)
+            if self._cut is not None:
+                self._mend_cut()
+            self._cut = wait
+            if transport.give(run.sent):
+                said = transport.next()
+                self._read_run(run, said)
+                if self._waits is not None:
+                    self._waits.see((run,))
+                transport.take_last()
+                if not isinstance(run.value, Waiting):
+                    self._cut = None
+                return
+            self._cut = None
+        except BaseException as error:
+            self._cut_off(error, run, said)
+            raise
+        finally:
+            self._caller = 0
+        self._perform((run,), self._waits)  # the program has printed what it shouldn't
+
+    def _read_run(self, run: Answer[Finished | FinishedThrows | Waiting], said: str) -> None:
+        words = said.split(" ")
+        if words[0] == "refused":
+            run.error = self._answers.refusal(words, ATOMICALLY.word, run.text.lstrip())
+        else:
+            run.value = self._answers.ran(words)
+        if self._answers.first is None:
+            self._answers.note(ATOMICALLY.word, run.text, run.value if run.error is None else run.error)
+
+    def _cut_off(self, error: BaseException, run: Answer[Any], said: str) -> None:
+        """An error has come while a block was run over a pipe. Ends the program, and raises why, if it is one of the program."""
+        is_of_program = isinstance(error, (Closed, Odd))
+        if is_of_program or isinstance(error, (ValueError, LookupError, TypeError)) and is_ours(error):
+            self._cut = None
+            why = self._broken(error, run.sent, said)
+            if why is not None:
+                raise why from None
+
+    def _mend_cut(self) -> None:
+        """Ends the call of `atomically` that an exception broke off: reads its answer, if there is one, and cancels its block if that
+        waits. An exception may break this off, too; then the next call does it. Needs the lock.
+
+        A line to which the answer is known says where the answer to the block would be: before it, if the block was given and its answer
+        not taken. `_run_over_pipe` has kept an answer that was taken.
+        """
+        wait, transport = self._cut, self._transport
+        assert wait is not None and isinstance(transport, Process)
+        run, said = wait.run, ""
+        try:
+            self._marks += 1
+            mark = f"commits writes none news none result {self._marks}"
+            if not transport.give(f"try return {self._marks}\n".encode()):
+                raise Odd("more lines than there should be")
+            while (said := transport.next()) != mark:
+                if not said.startswith("commits ") and not run.is_there():  # else it is an older mark
+                    self._read_run(run, said)
+                transport.take()
+            transport.take()
+        except BaseException as error:
+            self._cut_off(error, run, said)
+            raise
+        if run.error is None and run.is_there():
+            if self._waits is not None:
+                self._waits.see((run,))
+            if isinstance(run.value, Waiting):
+                self._exchange((Answer(CANCEL, str(run.value.ticket)),), self._waits)
+        self._cut = None
+        if not wait.is_over:
+            wait.end(error=Cancelled())
+
+    def _mend_now(self, wait: Wait) -> None:
+        """Ends a wait for which `_mend_cut` is to be called, unless that was done."""
+        with self._calls:
+            with suppress(DeskError):
+                self._perform(())
+            if self._cut is wait:
+                self._cut = None  # the desk has ended
+            if not wait.is_over:
+                wait.end(error=Cancelled())
+
     def _take_back(self, wait: Wait) -> None:
         """Ends a wait after an exception broke `_try_here` off. Cancels the block if it was run and waits."""
         if not self._transport.is_owner():
             wait.end(error=self._transport.not_owner())
+            return
+        if not self._transport.keeps_answers:
+            if self._cut is wait:
+                wait.hold()
+                try:
+                    let = self._begin_waits().helper.run  # whom no signal handler breaks off
+                except Exception:  # the desk has ended, or no thread can be started
+                    self._mend_now(wait)
+                else:
+                    let(partial(self._mend_now, wait))
+            elif not wait.is_over:
+                wait.end(error=Cancelled())
             return
         with self._calls:
             with suppress(DeskError):
@@ -819,6 +948,9 @@ class Desk:
 
     def _let_go(self) -> None:
         """Waits until blocks of `atomically` that were given up are cancelled, so that no journal has them."""
+        if self._cut is not None and not self._transport.end:
+            with self._calls, suppress(DeskError):
+                self._perform(())
         if self._waits is not None and not self._transport.end:
             self._waits.let_go(self._patience)
 
@@ -840,7 +972,7 @@ class Desk:
                 raise RuntimeError("a signal handler called the desk in the midst of another call")
             if self._is_closed:
                 raise ValueError("the desk is closed")
-            if command.is_seen and self._waits is not None:
+            if command.is_seen and self._waits is not None or self._cut is not None:
                 return self._ask_alone(command, text)
             said = ""
             try:
@@ -895,8 +1027,14 @@ class Desk:
                 raise copy(self._transport.end)
             if self._transport.is_new:
                 self._transport.is_new = False
-                self._answers.forget()
-                self._exchange((Answer(DECLARED),), None)
+                try:
+                    self._answers.forget()
+                    self._exchange((Answer(DECLARED),), None)
+                except BaseException:
+                    self._transport.is_new = True
+                    raise
+            if self._cut is not None:
+                self._mend_cut()
             if self._under_way:
                 self._mend()
             if answers:

@@ -75,6 +75,28 @@ class Refused(DeskError):
         return [shown] if place is None else [shown, " " * (len(label) + column) + "^"]
 
 
+class OtherType(Refused):
+    """`Desk.variable` was given another type than the one with which the variable is declared: the type of a variable can't change. `name` is
+    "OtherType", `declared` the type that it has, and `wanted` the other one.
+
+    >>> desk.variable("x : Bool = True")
+    Traceback (most recent call last):
+    stmdesk.OtherType: x is declared as Int, and not as Bool
+        variable x : Bool = True
+        hint: a type can't change: declare a variable under another name, and carry the value over in a block
+    """
+
+    def __init__(self, named: str, declared: str, wanted: str, text: str) -> None:
+        super().__init__("OtherType", command="variable", text=text)
+        self.args = (named, declared, wanted, text)
+        self.hint = "a type can't change: declare a variable under another name, and carry the value over in a block"
+        self.declared, self.wanted = declared, wanted
+        self._named = named
+
+    def _answer(self) -> str:
+        return f"{self._named} is declared as {self.declared}, and not as {self.wanted}"
+
+
 class Stopped(Refused):
     """A `settle` or a `drain` stopped before a step that was refused as `name`. What `settled` counts was done before, and stays.
 

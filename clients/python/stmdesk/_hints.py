@@ -364,6 +364,26 @@ class _Tokens:
                 found.add(word)
         return found
 
+    def _in_scope(self) -> set[str]:
+        """Those of them that can be used at the place."""
+        scopes: list[set[str]] = [set()]  # of each bracket and brace that is open
+        bound = [""]  # by the statement that is under way in each of them
+        for index, word in enumerate(self.words[: self.at]):
+            if word in ("{", "("):
+                thrown = self._get(index - 1)
+                is_handler = word == "(" and self._is_name(thrown) and self._get(index - 2) == ")"
+                scopes.append({thrown} if is_handler else set())
+                bound.append("")
+            elif word in ("}", ")") and len(scopes) > 1:
+                scopes.pop()
+                bound.pop()
+            elif word == ";":
+                scopes[-1].add(bound[-1])
+                bound[-1] = ""
+            elif self._get(index + 1) == "<-" or self._get(index - 1) == "let":
+                bound[-1] = word
+        return set().union(*scopes) - {""}
+
     def _unread(self, word: str) -> str | None:
         """The hint for a declared variable in place of its value."""
         if word not in self.types or word in self._locals():
@@ -405,12 +425,23 @@ class _Tokens:
         return (
             self._word_of_haskell(self.word)
             or self._word_of_haskell(self.before)
+            or self._misspelt()
             or self._operator()
             or self._brackets()
             or self._statement()
             or self._action()
             or self._too_many()
         )
+
+    def _misspelt(self) -> str | None:
+        """A word of the language with a letter more, less or other, two that are swapped, or small and capital ones mixed up."""
+        begins = [self.before] if self._get(self.at - 2) in _BEGIN_ACTION else []
+        for word in (self.word, *begins):
+            if self._is_name(word) and len(word) > 3 and word not in set(self.types) | self._locals():
+                close = [it for it in sorted(_RESERVED) if it.lower() == word.lower() or _is_close(it, word)]
+                if close:
+                    return f"there is no `{word}`; did you mean `{close[0]}`?"
+        return None
 
     def _operator(self) -> str | None:
         """An operator for which a value lacks brackets."""
@@ -601,12 +632,20 @@ class _Tokens:
         hyphened = self._hyphened(self.at + 1)
         if hyphened:
             return hyphened
-        known = sorted(set(self.types) | self._locals()) if len(self.types) <= 1000 else []
+        known = sorted(set(self.types) | self._in_scope()) if len(self.types) <= 1000 else []
         close = [it for it in known if it.lower() == self.word.lower() or _differ_by_one(it, self.word)]
         if close:
             return f"nothing of this name is declared; did you mean `{close[0]}`?"
         names = f"; the names here are {', '.join(known)}" if 0 < len(known) <= 12 else ""
         return f"nothing of this name is declared{names}"
+
+
+def _is_close(a: str, b: str) -> bool:
+    """Whether the words differ by one letter, or by two neighbours that are swapped."""
+    if _differ_by_one(a, b):
+        return True
+    at = next((i for i, (one, other) in enumerate(zip(a, b)) if one != other), None)
+    return at is not None and a[:at] + a[at + 1 : at + 2] + a[at] + a[at + 2 :] == b
 
 
 def _differ_by_one(a: str, b: str) -> bool:

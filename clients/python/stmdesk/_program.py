@@ -28,6 +28,8 @@ PIECE = 1 << 16  # bytes that are read at a time: what a pipe holds
 LINE_LIMIT = 16 << 20  # bytes of a line; stmdesk's longest have some 2 MiB
 STACK = 2 << 20  # bytes that the program needs
 SAID_LIMIT = 1 << 16  # bytes that are kept of the end of standard error
+ROOM = 1 << 14  # bytes that are read at a time by `next`: more than a `BufferedReader` keeps
+NOT_READ = b"\xff"  # what is in that room and wasn't read; the program prints ASCII
 
 
 def find_program() -> str:
@@ -163,6 +165,8 @@ class Process(OwnTransport):
         self._sending = threading.RLock()  # so that the input isn't closed in the midst of a write
         self.lines: deque[str] = deque()  # that were read and not taken
         self._rest = bytearray()  # of the output, after its last line feed
+        self._kept = bytearray(NOT_READ * ROOM)  # what `next` has read
+        self._taken = self._end = 0  # of that: how much was taken, and where the next line ends
         self._errors = tempfile.TemporaryFile()  # not a pipe, which somebody would have to empty
         try:
             self._process = subprocess.Popen(
@@ -263,6 +267,72 @@ class Process(OwnTransport):
                 return piece[:-1].decode("ascii", "replace")
             self._keep(piece)
         return lines.popleft()
+
+    # One line for one line, in steps of which a signal handler may break off any: it is never in doubt what was read. In doubt is only
+    # whether a line was given, and whether a line was taken that the caller has noted; `Desk._mend_cut` finds that out.
+
+    def give(self, text: bytes) -> bool:
+        """Gives a line, whole or not at all. False if it has to be given by `send`."""
+        if len(text) > select.PIPE_BUF or self.lines or self._rest:
+            return False
+        if self._taken:
+            self._kept[: self._taken] = NOT_READ * self._taken
+            self._taken = 0
+        try:
+            while True:
+                with self._sending:
+                    written = self._input.write(text)
+                if written is not None:
+                    return True
+                poll = select.poll()
+                poll.register(self._input.fileno(), select.POLLOUT)
+                poll.poll()
+        except (BrokenPipeError, ValueError) as error:
+            if not is_ours(error):
+                raise
+            raise Closed from None
+
+    def next(self) -> str:
+        """The next line that the program prints, without its line feed. It isn't taken by that. Raises `Closed` if none comes."""
+        kept, begin = self._kept, self._taken
+        end = kept.find(b"\n", begin)
+        while end < 0:
+            self._read_on(kept)
+            end = kept.find(b"\n", begin)
+        self._end = end + 1
+        return kept[begin:end].decode("ascii", "replace")
+
+    def take(self) -> None:
+        """Takes the line that `next` has returned."""
+        self._taken = self._end
+
+    def take_last(self) -> None:
+        """The same, and leaves what comes after it to `line`."""
+        self._taken = end = self._end
+        kept = self._kept
+        if end < len(kept) and kept[end] != NOT_READ[0]:
+            self._taken = kept.find(NOT_READ, end) if NOT_READ in kept else len(kept)
+            self._keep(bytes(kept[end : self._taken]))
+
+    def _read_on(self, kept: bytearray) -> None:
+        at = kept.find(NOT_READ, self._taken)
+        if at < 0:
+            at = len(kept)
+            if at > LINE_LIMIT:
+                raise Odd(kept[:200].decode("ascii", "replace"))
+            kept.extend(NOT_READ * at)
+        try:
+            if at == 0:
+                count = self._output.readinto1(kept)
+            else:
+                with memoryview(kept) as view, view[at:] as rest:
+                    count = self._output.readinto1(rest)
+        except ValueError as error:
+            if not is_ours(error):
+                raise
+            raise Closed from None
+        if not count:
+            raise Closed
 
     def broken_off(self) -> None:
         """Kills the program: what it still prints would be taken for the answer to the next call."""

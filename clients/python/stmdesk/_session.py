@@ -7,11 +7,13 @@ twice, and no answer is taken for that of another one.
 
 from __future__ import annotations
 
+import math
 import os
 import select
 import socket
 import threading
 import time
+import weakref
 from collections import deque
 from collections.abc import Callable, Sequence
 from contextlib import AbstractContextManager, suppress
@@ -20,7 +22,7 @@ from functools import partial
 from typing import Any
 
 from ._answers import Answers
-from ._commands import ATOMICALLY, Answer
+from ._commands import ATOMICALLY, DECLARED, Answer
 from ._errors import BadAnswer, Cancelled, DeskClosed, DeskError, OutcomeUnknown, Refused, Thrown
 from ._helper import Helper
 from ._hints import hint
@@ -34,15 +36,17 @@ ACKS = 2000  # ranges of numbers that one request acknowledges at most
 QUIET = 2.0  # seconds without an answer after which one of several servers is asked whether it is there
 DEAD = 6.0  # and after which another one is tried
 PAUSE = 0.05  # seconds between two tries to connect
-GREETING = 10.0  # seconds that a server has to answer the first line
+GREETING = 10.0  # seconds that a server has at most to answer the first line
+LEAST = 1.0  # and that it has however little patience is left; also for the first question
 
 
 class Request:
     """Lines that are done together, until their answer is there."""
 
-    __slots__ = ("acks", "error", "is_given_up", "is_over", "is_sent", "lines", "tell", "text")
+    __slots__ = ("acks", "error", "is_given_up", "is_over", "is_sent", "lines", "tell", "text", "until")
 
     def __init__(self, number: int, lines: Sequence[str], acks: Numbers, tell: Callable[[], None]) -> None:
+        self.until: float | None = None  # of a first question, which has no effect: when a server has to have answered it
         known = f" {acks.text(ACKS)}" if acks.ranges else ""
         self.text = "".join((f"@{number} {len(lines)}{known}\n", *(f"{it}\n" for it in lines))).encode()
         self.acks = acks
@@ -60,8 +64,16 @@ class Broken(Exception):
     """The connection ended, or said what no server says."""
 
 
+class Silent(Exception):
+    """The server took the connection, and then didn't answer what any server answers at once."""
+
+
 class Session(Transport):
-    """The calls of one desk, over one connection at a time. A thread of its own reads and connects, so that Ctrl-C breaks nothing off."""
+    """The calls of one desk, over one connection at a time. A thread of its own reads and connects, so that Ctrl-C breaks nothing off.
+
+    The thread ends with the desk, or when it has tried to connect again for as long as the patience. Then what is under way is refused, and
+    the next call starts another thread, which goes on with the same session if the server still has it.
+    """
 
     part = None
     is_shared = True
@@ -77,6 +89,9 @@ class Session(Transport):
         self._name = ""  # of the session, while there is one
         self._number = 0  # of the last request
         self._pending: dict[int, Request] = {}  # by number, ascending
+        self._dropped: set[int] = set()  # that were sent, and refused as unknown when the desk gave up
+        self._question: Request | None = None  # the first one over a connection, which any server answers at once
+        self._is_heard = False  # whether this connection has brought an answer
         self._got = Numbers()  # whose answers have come
         self._acks = Numbers()  # those of them that aren't acknowledged
         self._out = bytearray()  # what is to be sent
@@ -85,24 +100,32 @@ class Session(Transport):
         self._any_socket: socket.socket | None = None  # while there is one
         self._is_closing = self._is_killed = False
         self._pid = 0
+        self._worker: threading.Thread | None = None
+        self._since = time.monotonic()  # since when there was no server, while there is none
+        self._gave_up: DeskError | None = None  # why there was none, while the thread is over
+        self.has_desk = not is_waiting  # whether somebody has the desk already
         self._over = threading.Event()
         self._woken, self._wake = os.pipe()
         self._alive, self._life = os.pipe()  # whose second end is closed when the session ends
         self._open = [self._woken, self._wake, self._alive, self._life]
         os.set_blocking(self._wake, False)
+        weakref.finalize(self, _close_all, self._open).atexit = False
         self._opened: threading.Lock | None = threading.Lock()  # released when the first session is there, or none can be
         self._opened.acquire()
         opened = self._opened
         super().__init__()
-        threading.Thread(target=self._work, name="stmdesk connection", daemon=True).start()
-        if is_waiting:
-            try:
+        try:
+            with self._lock:
+                self._start()
+            if is_waiting:
                 opened.acquire()
-            except BaseException:
-                self.kill()
-                raise
-            if self.end:
-                raise copy(self.end)
+        except BaseException:
+            self.kill()
+            raise
+        error = self.end or self._gave_up
+        if error and is_waiting:
+            self.kill()
+            raise copy(error)
 
     # What a desk asks.
 
@@ -137,10 +160,13 @@ class Session(Transport):
             if self._socket and not self._out and not self._is_closing:  # so that the session ends now, and not after its grace
                 with suppress(OSError):
                     self._socket.send(b"bye\n", socket.MSG_DONTWAIT)
-            self.end = self.end or DeskClosed("the connection was closed")
+            self.end = end = self.end or DeskClosed("the connection was closed")
             self._is_closing = self._is_killed = True
             self._wake_up()
-            return self.end
+            is_idle = self._worker is None
+        if is_idle:
+            self._stop(end)
+        return end
 
     def close(self, patience: float) -> DeskError | None:
         """Ends the session, and with it the blocks that wait for it. Waits until the server has read that."""
@@ -151,7 +177,9 @@ class Session(Transport):
                 self._queue(b"bye\n")
             self.end = self.end or DeskClosed("the connection was closed")
             self._wake_up()
-        self._over.wait(patience)
+            is_idle = self._worker is None
+        if not is_idle:
+            self._over.wait(patience)
         self.kill()
         return None
 
@@ -191,7 +219,13 @@ class Session(Transport):
             self._number = number = self._number + 1
             acks, self._acks = Numbers(self._acks.ranges[:ACKS]), Numbers(self._acks.ranges[ACKS:])
             request = self._pending[number] = Request(number, lines, acks, tell)
+            if lines == [DECLARED.word] and not self._is_heard:
+                request.until = max(self._since + self._patience, time.monotonic() + LEAST)
+                self._question = request
+                self._wake_up()
             try:
+                if self._worker is None:
+                    self._start()
                 self._send(request.text, request)
             except BaseException:
                 if not request.is_sent:
@@ -252,59 +286,95 @@ class Session(Transport):
         self._parts.clear()
 
     def _wake_up(self) -> None:
-        with suppress(OSError):  # a full pipe wakes the thread as well; a closed one needs it no more
-            os.write(self._wake, b"\0")
+        """Needs the lock."""
+        if self._open:  # else the number may be that of another file
+            with suppress(OSError):  # a full pipe wakes the thread as well
+                os.write(self._wake, b"\0")
 
     # The thread.
 
-    def _work(self) -> None:
-        since, at, why = time.monotonic(), 0, DeskClosed("the connection was closed")
+    def _start(self) -> None:
+        """Starts the thread. Needs the lock."""
+        self._since, self._gave_up = time.monotonic(), None
+        self._worker = threading.Thread(target=self._work, name="stmdesk connection", daemon=True)
         try:
-            while not self._is_closing:
-                path = self._paths[at % len(self._paths)]
-                at += 1
-                try:
-                    with socket.socket(socket.AF_UNIX, socket.SOCK_STREAM) as it:
-                        self._any_socket = it
-                        rest = self._join(it, path)
-                        since = time.monotonic()
-                        self._tell_opened()
-                        self._talk(it, rest)
-                        why = DeskClosed(f"the server at {path} ended the connection")
-                        since = time.monotonic()
-                except Broken as error:
-                    why = DeskClosed(f"no server at {path}: {error}")
-                except OSError as error:
-                    why = DeskClosed(f"no server at {path}: {error.strerror or error}")
-                finally:
-                    with self._lock:
-                        self._socket = self._any_socket = None
-                        self._drop_queue()
-                if self._is_closing or not self._reconnect or time.monotonic() - since > self._patience:
-                    break
-                if (self._opened is None or at % len(self._paths) == 0) and select.select([self._woken], [], [], PAUSE)[0]:
-                    os.read(self._woken, 4096)
+            self._worker.start()
+        except BaseException as error:
+            self._worker = None  # if it was started all the same, it sees this
+            if isinstance(error, RuntimeError):
+                raise DeskClosed(f"no thread for the connection: {error}") from None
+            raise
+
+    def _work(self) -> None:
+        with self._lock:
+            if self._worker is not threading.current_thread():
+                return
+        why: DeskError = DeskClosed("the connection was closed")
+        gives_up = False
+        try:
+            why = self._connections()
+            gives_up = self._reconnect
         finally:
-            self._end_all(why)
+            self._stop(why, gives_up=gives_up)
+
+    def _connections(self) -> DeskError:
+        """One connection after the other. Returns why there is no further one."""
+        at, why = 0, DeskClosed("the connection was closed")
+        while not self._is_closing:
+            path = self._paths[at % len(self._paths)]
+            at += 1
+            was_there = False
+            try:
+                with socket.socket(socket.AF_UNIX, socket.SOCK_STREAM) as it:
+                    self._any_socket = it
+                    rest = self._join(it, path)
+                    was_there = True
+                    self._tell_opened()
+                    self._talk(it, rest)
+                    why = DeskClosed(f"the server at {path} ended the connection")
+            except Silent:
+                was_there = False
+                why = DeskClosed(f"no server at {path}: it takes connections, and doesn't answer")
+            except Broken as error:
+                why = DeskClosed(f"no server at {path}: {error}")
+            except OSError as error:
+                why = DeskClosed(f"no server at {path}: {error.strerror or error}")
+            finally:
+                with self._lock:
+                    self._socket = self._any_socket = None
+                    self._drop_queue()
+            if was_there:
+                self._since = time.monotonic()
+            if self._is_closing or not self._reconnect:
+                break
+            if time.monotonic() - self._since > self._patience:
+                next_call = "; its next call tries again" if self.has_desk else ""
+                return DeskClosed(f"{why}. The desk gave up after {self._patience:g} s{next_call}")
+            if (self._opened is None or at % len(self._paths) == 0) and select.select([self._woken], [], [], PAUSE)[0]:
+                os.read(self._woken, 4096)
+        return why
 
     def _join(self, it: socket.socket, path: str) -> bytes:
         """Connects, and joins the session or begins one. Returns what came after that."""
-        it.settimeout(GREETING)
+        now = time.monotonic()
+        until = now + min(GREETING, max(LEAST, self._since + self._patience - now))
+        it.settimeout(until - now)
         it.connect(path)
         rest = bytearray()
         with self._lock:
-            is_begun = not self._name
+            is_begun, self._is_heard = not self._name, False
             name = self._name or os.urandom(12).hex()
         it.sendall(f"session {name}{f' {self._new}' if is_begun else ''}\n".encode())
-        said = _line_of(it, rest).removeprefix("@0 ")
+        said = _line_of(it, rest, until).removeprefix("@0 ")
         if said == "1":
-            said = _line_of(it, rest)
+            said = _line_of(it, rest, until)
         if said != "session ok":
             if said != "refused NoSession":
                 raise Broken(said)
             with self._lock:  # it has ended, so what was sent is unknown
                 self._name, self._got, self._acks = "", Numbers(), Numbers()
-                sent = {n: it for n, it in self._pending.items() if it.is_sent}
+                self._dropped.clear()
+                sent = {n: it for n, it in self._pending.items() if it.is_sent and it.until is None}
                 for number in sent:
                     del self._pending[number]
             for request in sent.values():
@@ -319,6 +389,8 @@ class Session(Transport):
             self._name, self._socket = name, it
             with suppress(OSError, AttributeError):
                 self._pid = int.from_bytes(it.getsockopt(socket.SOL_SOCKET, socket.SO_PEERCRED, 12)[:4], "little")
+            for number in self._dropped:  # nobody would get the results of their blocks
+                self._queue(b"!%d\n" % number)
             for number, request in self._pending.items():
                 self._queue(request.text, None if request.is_sent else request)
                 request.is_sent = True
@@ -338,7 +410,14 @@ class Session(Transport):
             with self._lock:
                 poll.register(it, select.POLLIN | (select.POLLOUT if self._out else 0))
                 has_pending = bool(self._pending)
-            found = dict(poll.poll(1000 if several else None))
+                question = self._question
+            wait = 1000.0 if several else None
+            if question is not None and question.until is not None:
+                left = question.until - time.monotonic()
+                if left <= 0:
+                    raise Silent
+                wait = min(wait or math.inf, 1000 * left)
+            found = dict(poll.poll(wait))
             if self._woken in found:
                 os.read(self._woken, 4096)
             if it.fileno() in found:
@@ -356,7 +435,7 @@ class Session(Transport):
             if not several or not has_pending:
                 heard = time.monotonic()
             elif time.monotonic() - heard > DEAD and is_asked:
-                return
+                raise Broken("it doesn't answer any more")
             elif time.monotonic() - heard > QUIET and not is_asked:
                 is_asked = True
                 with self._lock:
@@ -368,10 +447,12 @@ class Session(Transport):
         with self._lock:
             if self._is_killed:
                 return
+            self._is_heard, self._question = True, None
             request = self._pending.pop(number, None)
             if request and refusal not in ("", "AnswerLost"):
                 self._acks_of(request.acks)  # it wasn't taken
-            if request:
+            if request or number in self._dropped:
+                self._dropped.discard(number)
                 self._got.add(number)
                 self._acks.add(number)
         if request:
@@ -383,18 +464,28 @@ class Session(Transport):
         if opened:
             opened.release()
 
-    def _end_all(self, why: DeskError) -> None:
+    def _stop(self, why: DeskError, *, gives_up: bool = False) -> None:
+        """The thread ends, or there is none: the desk has ended, or gives up until its next call."""
         with self._lock:
-            self.end = self.end or why
+            self._worker = None
+            if not gives_up or self._is_closing:
+                self.end = self.end or why
+            self._gave_up = error = self.end or why
             pending, self._pending = self._pending, {}
+            if not self.end:
+                self._dropped.update(number for number, it in pending.items() if it.is_sent)
+                self.is_new = True
+        unknown = "the connection ended before the answer came"
+        if not self.end:
+            unknown += f", and there was no server for {self._patience:g} s"
         for request in pending.values():
-            said = "the connection ended before the answer came: the call may have had its effect"
-            request.end(OutcomeUnknown(said) if request.is_sent else copy(self.end))
+            is_unknown = request.is_sent and request.until is None
+            request.end(OutcomeUnknown(f"{unknown}: the call may have had its effect") if is_unknown else copy(error))
         self._tell_opened()
-        with self._lock:
-            while self._open:
-                os.close(self._open.pop())
-        self._over.set()
+        if self.end:
+            with self._lock:
+                _close_all(self._open)
+            self._over.set()
 
 
 class _Reader:
@@ -436,15 +527,27 @@ def _refusal(name: str) -> DeskError:
     return Refused(name, hint=hint(name, None, None, "", "", {}, None))
 
 
-def _line_of(it: socket.socket, rest: bytearray) -> str:
+def _line_of(it: socket.socket, rest: bytearray, until: float) -> str:
+    """The next line, if it comes in time."""
     while b"\n" not in rest:
-        piece = it.recv(PIECE)
+        it.settimeout(max(until - time.monotonic(), 0.001))
+        try:
+            piece = it.recv(PIECE)
+        except TimeoutError:
+            raise Silent from None
         if not piece:
             raise Broken("it ended the connection")
         rest += piece
+        if len(rest) > PIECE:
+            raise Broken(rest[:200].decode("ascii", "replace"))
     line, _, after = rest.partition(b"\n")
     rest[:] = after
     return line.decode("ascii", "replace")
+
+
+def _close_all(descriptors: list[int]) -> None:
+    while descriptors:
+        os.close(descriptors.pop())
 
 
 class _ServerWaits(AtomicBlocks):

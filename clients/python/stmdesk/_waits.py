@@ -92,10 +92,11 @@ class Wait:
 class Waits(Owned, AtomicBlocks):
     """All blocks of the `atomically` of a desk that one process has for itself.
 
-    A turn runs them in rounds, no matter who asked: the new ones by the command `atomically`, which finishes a block or says that it
-    waits, and of those that wait the ones that may go on by `eval` and `finish`. Each caller runs a turn in its own thread until
-    its block was tried. The main thread, which a signal handler may interrupt anywhere, and a task, whose event loop has to
-    go on, leave that to the helper, a thread of the desk's own. Then the caller sleeps on a lock of its own, which is released
+    Most blocks come here only if they wait (`adopt`): their callers run them by the command `atomically` themselves, which finishes a block
+    or says that it waits (`Desk._try_here`). A turn runs the others in rounds, no matter who asked (`ask`): the new ones by that command,
+    and of those that wait the ones that may go on by `eval` and `finish`. Of those whose line is long, each caller runs a turn in its own
+    thread until its block was tried. The main thread, which a signal handler may interrupt anywhere, and a task, whose event loop has
+    to go on, leave that to the helper, a thread of the desk's own. Then the caller sleeps on a lock of its own, which is released
     when the outcome is there. The helper sleeps until a turn is queued or the program ends. So nobody polls; only the main thread
     wakes up once a second, to let handlers of signals run.
 
@@ -188,6 +189,7 @@ class Waits(Owned, AtomicBlocks):
                 self._cancelled(int(answer.text))
             elif answer.command is ATOMICALLY:
                 done = answer.result()
+                self._has_room()
                 if not isinstance(done, Waiting):
                     self._finished(done)
             elif answer.command is CHECKPOINT:

@@ -37,7 +37,9 @@ T = TypeVar("T")
 
 
 class _Desk(_desk.Desk):
-    """A desk whose journal is opened in its own thread."""
+    """A desk whose journal is opened in its own thread, and which asks its server there."""
+
+    _not_there: DeskError | None = None  # why the server wasn't, at the first try
 
     def _open_journal(self, process: Process) -> None:
         open_journal = super()._open_journal
@@ -48,17 +50,20 @@ class _Desk(_desk.Desk):
 
         self._begin_waits().helper.run(work)
 
-    def _take_over(self) -> None:
-        take_over = super()._take_over
-
+    def _begin_over(self) -> None:
         def work() -> None:
-            with suppress(DeskError):  # which each later call raises
-                take_over()
+            try:
+                self._take_over()
+            except DeskError as error:  # which each later call raises, unless it finds the server
+                self._not_there = error
 
         self._begin_waits().helper.run(work)
 
     def check_opened(self) -> None:
-        """Raises `JournalError` if the journal isn't open, and `DeskClosed` if there is no server."""
+        """Raises `JournalError` if the journal isn't open, and `DeskClosed` if there is no server. Then the desk has ended."""
+        if self._not_there is not None:
+            self._transport.kill()
+            raise copy(self._not_there)
         if isinstance(self._transport.end, (JournalError, DeskClosed)):
             raise copy(self._transport.end)
 

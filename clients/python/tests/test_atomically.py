@@ -329,12 +329,15 @@ class Atomically(InThreads):
         with self.assertRaises(ValueError):
             desk.atomically("return 1")
 
-    @needs_process("no thread of a desk in this process runs a block that doesn't wait")
+    @needs_process("see test_a_desk_that_nobody_uses_is_freed")
     def test_its_thread_ends_with_the_program(self):
         for is_closed in (True, False):
             before = threading.enumerate()
             desk = new_desk()
             desk.atomically("return 1")
+            self.assertEqual(threading.enumerate(), before)  # as long as no block waits
+            with self.assertRaises(stmdesk.TimedOut):
+                desk.atomically("retry", timeout=0)
             (thread,) = (it for it in threading.enumerate() if it not in before)
             self.assertEqual(thread.name, "stmdesk")
             if is_closed:

@@ -6,8 +6,8 @@ import pathlib
 import tempfile
 
 from stmdesk import (
-    BadAnswer, Cell, Commits, Current, Declaration, Desk, Finished, Job, New, Ref, Refused, Settled, StaleBy, Submission, Waiting, _hints,
-    check,
+    BadAnswer, Cell, Commits, Current, Declaration, Desk, Finished, Job, New, OtherType, Ref, Refused, Settled, StaleBy, Submission, Waiting,
+    _hints, check,
 )  # fmt: skip
 from tests.common import INCREMENT, X, InThreads, OnProgram, cell, needs_process, new_aio_desk, new_desk, program, waits_for
 from tests.test_refusals import WRONG_DECLARATIONS
@@ -196,7 +196,9 @@ class Variables(OnProgram):
         desk = self.start()
         desk.store()
         self.assert_is([desk.variable("x : Int = 9"), desk.variable("y : Int = 2"), desk.variable("y:Int=7")], [X, Y, Y])
-        self.assert_refused(lambda: desk.variable("y : Bool = True"), "Late")
+        with self.assertRaisesRegex(OtherType, "^y is declared as Int, and not as Bool\n    variable y : Bool = True\n    hint: a type can't") as caught:
+            desk.variable("y : Bool = True")
+        self.assertEqual((caught.exception.declared, caught.exception.wanted), ("Int", "Bool"))
         self.assert_refused(lambda: desk.variable(""), "EndOfText")
         self.assert_refused(lambda: desk.variable("z : Int = w"), "Unknown", 10)
         self.assert_is(desk.store()[1:], [cell(1, "y", "Int", 2, 0)])
@@ -221,7 +223,7 @@ class Journals(InThreads):
 
     def test_a_new_release(self):
         with new_desk(journal=self.path) as desk:
-            desk.variable("waiting : Int = 3")
+            desk.tvar("waiting : Int = 3")
             desk.submit("do { n <- readTVar waiting; writeTVar waiting (n - 1) }")
             self.assertEqual(self.head(), '{"format":3,"vars":1}')
         with new_desk(journal=self.path) as desk:

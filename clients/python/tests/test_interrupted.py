@@ -1,13 +1,16 @@
 """Calls that are broken off, by signals and exceptions."""
 
+import dis
 import random
 import signal
+import sys
 import threading
 import time
 from unittest import mock
 
-from stmdesk import Blocks, Current, Desk, Ended, Refused, TimedOut, _waits
-from tests.common import INCREMENT, InThreads, Interruption, OnProgram, needs_process, waits_for
+from stmdesk import Blocks, Current, Desk, Ended, Refused, TimedOut, _helper, _waits
+from stmdesk._program import Process
+from tests.common import INCREMENT, SECONDS, InThreads, Interruption, OnProgram, needs_process, waits_for
 
 
 class BrokenOff(OnProgram):
@@ -187,3 +190,85 @@ class Interrupted(InThreads):
         with self.assertRaisesRegex(RuntimeError, "signal handler"):
             desk.submit("retry")
         self.assert_gone(desk.pid)
+
+
+@needs_process("see test_local.py")
+class AtAnyStep(InThreads):
+    """An exception comes after one of Python's steps within `atomically`, each of them in turn, in the main thread."""
+
+    def broken_off(self, call, step):
+        """Whether the call was broken off after its step of this number, and not over before. A step is a call that Python makes, since
+        after each of them it runs handlers of signals."""
+        left, last = [step], {}
+
+        def trace(frame, event, argument):
+            if not frame.f_globals.get("__name__", "").startswith("stmdesk"):
+                return None
+            frame.f_trace_opcodes, frame.f_trace_lines = True, False
+            if event == "opcode":
+                before, last[frame] = last.get(frame), frame.f_lasti
+                if before is not None and dis.opname[frame.f_code.co_code[before]].startswith("CALL"):
+                    left[0] -= 1
+                    if left[0] < 0:
+                        raise Interruption
+            return trace
+
+        before = sys.gettrace()
+        sys.settrace(trace)
+        try:
+            call()
+        except Interruption:
+            return True
+        finally:
+            sys.settrace(before)
+        return False
+
+    def test_a_block_that_finishes(self):
+        for is_seen in (False, True):
+            desk = self.start()
+            seen = 0
+            if is_seen:  # by a block that waits, which has to go on when x changes
+                waiting = self.begin(desk.atomically, "do { a <- readTVar x; if a < 2 then retry else return a }")
+                self.until_blocked(desk, 1)
+                seen = 1
+            step, x, done = 0, 1, 0
+            while self.broken_off(lambda: desk.atomically(INCREMENT), step):
+                now = desk.value("x")
+                self.assertIn(now - x, (0, 1))
+                if is_seen and now == 2 and seen:
+                    self.assertEqual(waiting.result(SECONDS), 2)
+                    seen = 0
+                self.assertEqual(len(desk.show()), seen)
+                done += now - x
+                step, x = step + 1, now
+            self.assertEqual(desk.value("x"), x + 1)
+            self.assertTrue(0 < done < step, (done, step))
+            self.assert_is(desk.atomically("return 7"), 7)
+
+    def test_a_block_that_waits(self):
+        """It is cancelled."""
+        for label in (None, "job7"):
+            desk, step = self.start(), 0
+
+            def call():
+                with self.assertRaises(TimedOut):
+                    desk.atomically("retry", timeout=0, label=label)
+
+            while self.broken_off(call, step):
+                self.assertEqual(desk.show(), [])
+                step += 1
+            self.assertGreater(step, 20)
+            self.assertEqual((desk.show(), desk.atomically("return 7")), ([], 7))
+
+    def test_a_second_exception(self):
+        """While the first one's call is taken back: the next call does that."""
+        for block in (INCREMENT, "retry"):
+            desk = self.start()
+            for count in range(1, 4):
+                with mock.patch.object(Process, "next", side_effect=Interruption), mock.patch.object(_helper.Helper, "run", side_effect=Interruption):
+                    with self.assertRaises(Interruption):
+                        desk.atomically(block)
+                    with self.assertRaises(Interruption):
+                        desk.show()
+                self.assertEqual(desk.show(), [])
+                self.assertEqual(desk.value("x"), 1 + count if block is INCREMENT else 1)

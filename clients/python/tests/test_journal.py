@@ -2,6 +2,7 @@
 
 import asyncio
 import contextlib
+import copy
 import os
 import pathlib
 import random
@@ -15,7 +16,7 @@ from functools import partial
 
 import stmdesk
 from stmdesk import (
-    Blocks, Cancellation, Commits, Current, Delivery, Desk, Ended, Finish, Finished, JournalError, New, Ref, Refused, Settled,
+    Blocks, Cancellation, Commits, Current, Delivery, Desk, Ended, Finish, Finished, JournalError, New, OtherType, Ref, Refused, Settled,
     Submission, Waits, aio, check,
 )  # fmt: skip
 from tests.common import (
@@ -51,7 +52,7 @@ class Journals(InThreads):
             self.path = self.path.with_name(f"{sync}")
             with self.open(sync=sync) as desk:
                 self.assert_is((desk.is_resumed, desk.dropped), (False, 0))
-                self.assert_is(desk.variable("x : Int = 1"), X)
+                self.assert_is(desk.tvar("x : Int = 1"), X)
                 self.assert_is(desk.tvar("flag : Bool = False"), FLAG)
                 self.assert_is(desk.submit("do { a <- readTVar x; f <- readTVar flag; if f then return a else retry }"), 1)
                 self.assert_is(desk.submit(INCREMENT), 2)
@@ -95,19 +96,38 @@ class Journals(InThreads):
         with self.open() as desk:
             self.assert_is((desk.is_resumed, desk.store()), (True, [cell(0, "x", "Int", 2, 0)]))
 
+    def test_a_variable_alone_is_kept(self):
+        """Once its answer was seen, however the program ends."""
+        with self.open() as desk:
+            self.assert_is(desk.variable("x : Int = 1"), X)
+        desk = self.open()
+        self.assert_is((desk.is_resumed, desk.variable("x : Int = 7"), desk.variable("flag : Bool = True")), (True, X, FLAG))
+        os.kill(desk.pid, signal.SIGKILL)
+        self.assertRaises(stmdesk.Ended, desk.show)
+        with self.open() as desk:
+            self.assert_is((desk.is_resumed, desk.values("x", "flag")), (True, [1, True]))
+
     def test_variable(self):
         declarations = ["x : Int = 1", "slot : TVar Int = x", "deep : TVar (TVar Int) = slot", "u : () = ()", "u' : TVar () = u"]
         spelled = ["x:Int=7", "slot: TVar (Int) = x", "deep : TVar(TVar Int)=slot", " u : ( )= ()", "u' : (TVar ( )) = u"]
         with self.open() as desk:
             refs = [desk.variable(it) for it in declarations]
             self.assertEqual([desk.variable(it) for it in spelled], refs)
-            self.assert_refused(lambda: desk.variable("x : Bool = True"), "Twice")
+            self.assert_refused(lambda: desk.variable("x : Bool = True"), "OtherType")
             desk.store()
             self.assertEqual([desk.variable(it) for it in spelled], refs)
         with self.open() as desk:
             self.assert_is([desk.variable(it) for it in spelled], refs)
-            for wrong in ("x : Bool = True", "slot : TVar (TVar Int) = x", "x"):
-                self.assert_refused(lambda wrong=wrong: desk.variable(wrong), "Late")
+            for wrong, why in (
+                ("x : Bool = True", "x is declared as Int, and not as Bool"),
+                (" slot:TVar  (TVar Int) = x", "slot is declared as TVar Int, and not as TVar (TVar Int)"),
+                ("u : Nothing = ()", "u is declared as (), and not as Nothing"),
+            ):
+                with self.assertRaises(OtherType) as caught:
+                    desk.variable(wrong)
+                self.assertEqual(str(caught.exception).partition("\n")[0], why)
+                self.assertEqual(str(copy.copy(caught.exception)), str(caught.exception))
+            self.assert_refused(lambda: desk.variable("x"), "EndOfText")
             with self.assertRaisesRegex(Refused, "hint: the journal has it already, as `x : Int`"):
                 desk.tvar("x : Bool = True")
             with self.assertRaisesRegex(Refused, "hint: the desk goes on from its journal, and has the variables"):
