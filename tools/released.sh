@@ -39,13 +39,15 @@ need_unpacker() {
         stop "to unpack $packed, the command 'xz', or 'python3' with its module lzma, must be on the PATH"
 }
 
-unpacked() {
+# Prints what is in the packed file, whatever options and limits the environment has for xz.
+unpacked() (
+    unset XZ_DEFAULTS XZ_OPT
     if command -v xz >/dev/null; then
         xz -dc "$here/$packed"
     else
         python3 -c 'import lzma, shutil, sys; shutil.copyfileobj(lzma.open(sys.argv[1]), sys.stdout.buffer)' "$here/$packed"
     fi
-}
+)
 
 # What sha256sum prints of what is in the packed file, and of something else if that file is damaged.
 packed_sum() {
@@ -56,10 +58,10 @@ has_sum() {
     [ "$(sha256sum <"$1")" = "$sum  -" ]
 }
 
-# Unpacks it into a folder and checks it; it gets its name when it is whole. Sets `program` to its path.
+# Unpacks it into a folder, to which nobody else may write, and checks it; it gets its name when it is whole. Sets `program` to its path.
 unpack_into() {
-    mkdir -p "$1" && part=$(mktemp "$1/part.XXXXXX") || return 1
-    if unpacked >"$part" && has_sum "$part" && chmod 755 "$part" && mv -f "$part" "$1/$base"; then
+    (umask go-w && mkdir -p "$1") && part=$(mktemp "$1/part.XXXXXX") || return 1
+    if unpacked >"$part" && has_sum "$part" && chmod 755 "$part" && [ ! -d "$1/$base" ] && mv -f "$part" "$1/$base"; then
         program=$1/$base
     else
         rm -f "$part"
@@ -83,6 +85,7 @@ unpack_once() {
     why="release/ is for Linux on x86-64"
     [ "$(uname -sm)" = "Linux x86_64" ] || return 1
     program=$here/out/release/$sum/$base
+    [ ! -d "$program" ] || stop "$program is a folder, where the $kind would be unpacked: remove it"
     if [ -e "$program" ]; then
         [ -x "$program" ] && has_sum "$program" && return
         say "$program was changed after it was unpacked: it isn't $used, and is unpacked again"
@@ -100,6 +103,12 @@ unpack_privately() {
         [ -z "$place" ] || rm -rf "$place"
         stop "release/stmdesk.xz can be unpacked neither below $here/out nor into a temporary folder"
     }
+    status=0
+    "$program" --version </dev/null >/dev/null 2>&1 8>&- 9>&- || status=$?
+    if [ "$status" -eq 126 ]; then # as if it is mounted with noexec
+        rm -rf "$place"
+        stop "no program can be run from ${TMPDIR:-/tmp}, nor unpacked below $here/out: set TMPDIR to a folder from which programs can be run"
+    fi
     (
         trap '' HUP INT QUIT TERM
         exec 8>&-
