@@ -153,8 +153,7 @@ class Engine:
             while True:
                 count = self.count
                 left = [self.notes.jobs[it] for it in range(1, count + 1) if it not in self.over]
-                number = self.desk.atomically(following(left[:MOST], count), label=name)
-                assert isinstance(number, int)
+                number = self.desk.atomically(following(left[:MOST], count), label=name, returns=int)
                 if number > 0:
                     self.try_job(self.notes.jobs[number])
                 elif number < 0:

@@ -65,11 +65,11 @@ def work(worker: int, paths: list[str]) -> None:
         sure(desk, give_back(worker))  # of one that had this number before
         while True:
             try:
-                job = desk.atomically(take)
+                job = desk.atomically(take, returns=int)
             except OutcomeUnknown:  # perhaps it has a job and doesn't know which
                 sure(desk, give_back(worker))
                 continue
-            if not isinstance(job, int) or job == 0:
+            if job == 0:
                 return
             if job == DIES and desk.value(f"t{job}") == 1:
                 os.kill(os.getpid(), signal.SIGKILL)

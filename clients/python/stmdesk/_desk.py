@@ -13,7 +13,7 @@ from os import getpid
 from select import PIPE_BUF
 from threading import get_ident
 from types import TracebackType
-from typing import Any, Literal, NoReturn, TypeVar, get_args
+from typing import Any, Literal, NoReturn, TypeVar, get_args, overload
 
 from ._answers import Answers
 from ._batch import Batch
@@ -26,8 +26,8 @@ from ._errors import BadAnswer, Cancelled, DeskError, OtherType, OutOfMemory, Re
 from ._local import begin_local
 from ._program import Process, check_built, find_program, is_ours
 from ._transport import Closed, Odd, Transport, AtomicBlocks
-from ._values import Commits, Entry, Events, Finished, FinishedThrows, Job, Reason, Ref, Settled, Status, Store, Value, Verdict, Waiting
-from ._waits import Wait, checked_timeout
+from ._values import Commits, Entry, Events, Finished, FinishedThrows, Job, R, Reason, Ref, Settled, Status, Store, Value, Verdict, Waiting
+from ._waits import Wait, check_returns, checked_result, checked_timeout
 
 PATIENCE = 5.0  # seconds that the program has to end after its input has ended
 FEW = 8  # commands that are sent in one go whatever their length
@@ -590,7 +590,15 @@ class Desk:
         self._take_over()
         return self._found(declaration)
 
-    def atomically(self, block: str, timeout: float | None = None, *, label: str | None = None) -> Value:
+    @overload
+    def atomically(self, block: str, timeout: float | None = None, *, label: str | None = None, returns: None = None) -> Value: ...
+
+    @overload
+    def atomically(self, block: str, timeout: float | None = None, *, label: str | None = None, returns: type[R]) -> R: ...
+
+    def atomically(
+        self, block: str, timeout: float | None = None, *, label: str | None = None, returns: type[R] | None = None
+    ) -> Value:
         """Runs the block and returns its result. While the block retries, waits until what it has read changes. If it comes to wait, and
         only then, it gets the label, if one is given.
 
@@ -609,6 +617,12 @@ class Desk:
         >>> waiting.join()
         >>> results
         [5]
+
+        A type checker sees that the result has the type `returns`: int, bool or Ref. If it has another one, as True for int, this raises
+        TypeError; what the block has done stays.
+
+        >>> desk.atomically("do { a <- readTVar x; return (a + 1) }", returns=int) + 1
+        7
         """
         transport = self._transport
         if getpid() != transport.owner:
@@ -616,6 +630,7 @@ class Desk:
         if self._caller == get_ident():
             raise RuntimeError("a signal handler called the desk in the midst of another call")
         timeout = checked_timeout(timeout)
+        check_returns(returns)
         wait = Wait(block, None if label is None else checked_label(label))
         waits: AtomicBlocks | None = None
         if not transport.keeps_answers and not self._is_for_pipe(wait):
@@ -643,7 +658,7 @@ class Desk:
             raise
         if is_late and isinstance(wait.error, Cancelled) and timeout is not None:
             raise TimedOut(timeout)
-        return wait.outcome()
+        return wait.outcome() if returns is None else checked_result(wait.outcome(), returns)
 
     def _is_for_pipe(self, wait: Wait) -> bool:
         """Whether `_run_over_pipe` can run the block. A label is a second command, which nothing may break off."""

@@ -52,6 +52,7 @@ class NewRef:
 
 
 Value = int | bool | None | Ref | NewRef
+R = TypeVar("R", bound=int | Ref)  # the type that a caller expects of a result: int, bool or Ref
 Fault = int | Literal["overflow"]
 
 

@@ -17,7 +17,7 @@ from ._errors import Cancelled, DeskError, OutOfMemory, Refused, Thrown
 from ._fork import Owned
 from ._helper import Helper
 from ._transport import AtomicBlocks, OwnTransport
-from ._values import Finished, FinishedThrows, Value, Waiting
+from ._values import Finished, FinishedThrows, R, Ref, Value, Waiting
 
 SIGNALS = 1.0  # seconds after which the main thread looks for a signal that it has missed
 
@@ -35,6 +35,19 @@ def checked_timeout(timeout: float | None) -> float | None:
     if not is_number:
         raise ValueError(f"a timeout is a number of seconds, and not {timeout!r}")
     return seconds
+
+
+def check_returns(returns: type[R] | None) -> None:
+    """Raises TypeError if this is none of the types that a result can be asked to have."""
+    if returns is not None and returns not in (int, bool, Ref):
+        raise TypeError(f"`returns` is int, bool or Ref, and not {returns!r}")
+
+
+def checked_result(result: Value, returns: type[R]) -> R:
+    """The result, which is to have this type. Raises TypeError if it has another one: a bool is no int here."""
+    if type(result) is not returns:
+        raise TypeError(f"the block returned {result!r}, which is of type {type(result).__name__} and not {returns.__name__}; its effect stays")
+    return result
 
 
 class Wait:

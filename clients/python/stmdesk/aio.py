@@ -22,7 +22,7 @@ from contextlib import suppress
 from copy import copy
 from functools import partial
 from types import TracebackType
-from typing import Any, TypeVar
+from typing import Any, TypeVar, overload
 
 from . import _desk
 from ._batch import Commands
@@ -30,8 +30,8 @@ from ._connect import PATIENCE, Paths, session
 from ._errors import Cancelled, DeskClosed, DeskError, JournalError, TimedOut
 from ._program import Process
 from ._commands import checked_label
-from ._values import Entry, Events, Finished, FinishedThrows, Job, Reason, Ref, Settled, Status, Store, Value, Verdict, Waiting
-from ._waits import Wait, checked_timeout
+from ._values import Entry, Events, Finished, FinishedThrows, Job, R, Reason, Ref, Settled, Status, Store, Value, Verdict, Waiting
+from ._waits import Wait, check_returns, checked_result, checked_timeout
 
 T = TypeVar("T")
 
@@ -343,7 +343,15 @@ class Desk:
         """
         return await self._call(partial(self._desk.values, *variables))
 
-    async def atomically(self, block: str, timeout: float | None = None, *, label: str | None = None) -> Value:
+    @overload
+    async def atomically(self, block: str, timeout: float | None = None, *, label: str | None = None, returns: None = None) -> Value: ...
+
+    @overload
+    async def atomically(self, block: str, timeout: float | None = None, *, label: str | None = None, returns: type[R]) -> R: ...
+
+    async def atomically(
+        self, block: str, timeout: float | None = None, *, label: str | None = None, returns: type[R] | None = None
+    ) -> Value:
         """Runs the block and returns its result. While the block retries, waits until what it has read changes. If it comes to wait it
         gets the label, if one is given.
 
@@ -353,8 +361,15 @@ class Desk:
 
         >>> run(desk.atomically("do { a <- readTVar x; writeTVar x (a + 1); return a }"))
         1
+
+        A type checker sees that the result has the type `returns`: int, bool or Ref. If it has another one, as True for int, this raises
+        TypeError; what the block has done stays.
+
+        >>> run(desk.atomically("readTVar x", returns=int)) + 1
+        3
         """
         timeout = checked_timeout(timeout)
+        check_returns(returns)
         loop = asyncio.get_running_loop()
         over: asyncio.Future[None] = loop.create_future()
         wait = Wait(block, None if label is None else checked_label(label), lambda: _tell(loop, over, None, None))
@@ -373,7 +388,7 @@ class Desk:
             raise
         if is_late and isinstance(wait.error, Cancelled) and timeout is not None:
             raise TimedOut(timeout)
-        return wait.outcome()
+        return wait.outcome() if returns is None else checked_result(wait.outcome(), returns)
 
     async def orphans(self) -> list[int]:
         """The tickets that waited already when this desk went on from its journal, and still wait, as of `stmdesk.Desk.orphans`.

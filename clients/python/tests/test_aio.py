@@ -87,6 +87,18 @@ class Asynchronous(OnProgram):
 
         self.run_on_desk(main)
 
+    def test_the_type_of_a_result(self):
+        async def main(desk):
+            self.assert_is(await desk.atomically(INCREMENT, returns=int), 1)
+            self.assert_is(await desk.atomically("return x", returns=Ref), X)
+            with self.assertRaisesRegex(TypeError, "^the block returned 7, which is of type int and not bool; its effect stays$"):
+                await desk.atomically("do { writeTVar x 7; return 7 }", returns=bool)
+            with self.assertRaisesRegex(TypeError, "^`returns` is int, bool or Ref, and not <class 'str'>$"):
+                await desk.atomically("writeTVar x 99", returns=str)
+            self.assert_is(await desk.value("x"), 7)
+
+        self.run_on_desk(main)
+
     def test_many_tasks(self):
         async def main(desk):
             found = await asyncio.gather(*[desk.atomically(INCREMENT) for _ in range(500)])

@@ -6,6 +6,7 @@ import decimal
 import fractions
 import gc
 import os
+import re
 import signal
 import threading
 import time
@@ -29,6 +30,31 @@ class Atomically(InThreads):
         self.assert_is(desk.atomically("return x"), X)
         self.assert_is(desk.value("x"), 7)
         self.assert_is(desk.show(), [])
+
+    def test_a_result_of_the_type_that_is_expected(self):
+        desk = self.start()
+        self.assert_is(desk.atomically(INCREMENT, returns=int), 1)
+        self.assert_is(desk.atomically("return (1 == 1)", returns=bool), True)
+        self.assert_is(desk.atomically("return x", returns=Ref), X)
+        self.assert_is(desk.atomically("return 7", returns=None), 7)
+
+    def test_a_result_of_another_type_raises(self):
+        """Then the block has run. What is no such type raises before anything is sent."""
+        desk, value = self.start(), 1
+        for result, returns, said in (
+            ("(1 == 1)", int, "the block returned True, which is of type bool and not int; its effect stays"),
+            ("1", bool, "the block returned 1, which is of type int and not bool; its effect stays"),
+            ("x", int, "the block returned Ref(0, 'x'), which is of type Ref and not int; its effect stays"),
+            ("()", Ref, "the block returned None, which is of type NoneType and not Ref; its effect stays"),
+        ):
+            value += 1
+            with self.assertRaisesRegex(TypeError, re.escape(said)):
+                desk.atomically(f"do {{ writeTVar x {value}; return {result} }}", returns=returns)
+            self.assert_is(desk.value("x"), value)
+        for returns in (str, type(None), object, 1, "int", (int, bool), []):
+            with self.assertRaisesRegex(TypeError, re.escape(f"`returns` is int, bool or Ref, and not {returns!r}")):
+                desk.atomically("writeTVar x 99", returns=returns)
+        self.assert_is(desk.value("x"), value)
 
     def test_its_events_are_those_of_the_calls(self):
         desk, other = self.start(), self.start()

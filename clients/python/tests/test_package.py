@@ -18,6 +18,27 @@ from stmdesk import Cell, Commits, Finished, NewRef, Ref, Refused
 from tests.common import HERE, REPOSITORY, SECONDS, X, OnProgram, cell, needs_process
 
 
+# What a user may write. mypy finds an error in each line with a comment, and in no other.
+CALLS = """from stmdesk import Desk, Ref, aio
+def calls(desk: Desk) -> None:
+    number: int = desk.atomically("return 1", returns=int)
+    truth: bool = desk.atomically("return (1 == 1)", 1.0, returns=bool)
+    made: Ref = desk.atomically("newTVar 1", label="a", returns=Ref)
+    number = desk.atomically("return 1", timeout=1)  # not only an int
+    truth = desk.atomically("return 1", returns=int)  # no bool
+    made = desk.atomically("return 1", returns=int)  # no reference
+    desk.atomically("return 1", returns=str)  # no result has this type
+async def same(desk: aio.Desk) -> None:
+    number: int = await desk.atomically("return 1", returns=int)
+    truth: bool = await desk.atomically("return (1 == 1)", 1.0, returns=bool)
+    made: Ref = await desk.atomically("newTVar 1", label="a", returns=Ref)
+    number = await desk.atomically("return 1", timeout=1)  # not only an int
+    truth = await desk.atomically("return 1", returns=int)  # no bool
+    made = await desk.atomically("return 1", returns=int)  # no reference
+    await desk.atomically("return 1", returns=str)  # no result has this type
+"""
+
+
 class Names(OnProgram):
     def test_of_references(self):
         self.assertEqual([str(it) for it in (X, Ref(7), NewRef(0))], ["x", "#7", "new0"])
@@ -187,12 +208,24 @@ class Package(OnProgram):
                 if isinstance(found, (type, types.FunctionType)):
                     typing.get_type_hints(found)
 
-
-    def test_mypy_finds_nothing(self):
+    def mypy(self, path):
+        """What mypy prints of a file or folder."""
         mypy = shutil.which("mypy")
         if not mypy:
             self.skipTest("no mypy")
         with tempfile.TemporaryDirectory() as cache:
-            command = [mypy, "--strict", "--python-version", "3.10", "--cache-dir", cache, str(HERE / "stmdesk")]
-            done = subprocess.run(command, capture_output=True, text=True, timeout=SECONDS)
-        self.assertEqual(done.returncode, 0, done.stdout + done.stderr)
+            command = [mypy, "--strict", "--python-version", "3.10", "--cache-dir", cache, str(path)]
+            done = subprocess.run(command, capture_output=True, text=True, timeout=SECONDS, cwd=HERE)
+        self.assertEqual((done.returncode, done.stderr), (0 if done.stdout.startswith("Success: ") else 1, ""), done.stdout)
+        return done.stdout
+
+    def test_mypy_finds_nothing(self):
+        self.assertIn("Success: no issues found", self.mypy(HERE / "stmdesk"))
+
+    def test_mypy_knows_the_type_of_a_result(self):
+        with tempfile.TemporaryDirectory() as folder:
+            path = pathlib.Path(folder) / "calls.py"
+            path.write_text(CALLS)
+            said = self.mypy(path)
+        found = {int(it) for it in re.findall(r"calls\.py:(\d+): error: ", said)}
+        self.assertEqual(found, {number for number, line in enumerate(CALLS.splitlines(), 1) if "#" in line}, said)
