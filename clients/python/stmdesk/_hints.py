@@ -115,7 +115,8 @@ _NAMES = {
     # Of a server (docs/SERVER.md):
     "AnswersFull": "the answers before this one in its batch have as many bytes as a server makes for one request: ask for less in one batch",
     "ShareFull": "as many blocks of this connection wait as a server allows one: finish or cancel some, or wait for some",
-    "RequestTooLong": "a batch over a connection is one request, and is longer than the server takes: make it smaller",
+    "RequestTooLong": "a batch over a connection is one request, which has at most 524,288 bytes as JSON, or what the server's --max-request "
+    "says: send it as several batches",
     "RequestsFull": "this connection has as many calls under way as the server allows: wait for some, or open another one",
     "Waits": "`settle` and `drain` don't say what they finish, and a block of `atomically` waits on the server",
 }
