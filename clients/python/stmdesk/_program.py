@@ -42,9 +42,11 @@ def find_program() -> str:
     """
     named = os.environ.get("STMDESK")
     if named:
-        found = shutil.which(named)
+        found = executable(named)
         if not found:
             raise FileNotFoundError(f"no program to run: STMDESK names {named!r}, which isn't an executable file")
+        if is_command(found):
+            raise FileNotFoundError(f"no program to run: STMDESK names {named!r}, a command that pip made, which itself runs what STMDESK names")
         return found
     folder = Path(__file__).resolve().parent
     own = os.fspath(folder / "bin" / "stmdesk")
@@ -54,13 +56,35 @@ def find_program() -> str:
         return of_repository_above(folder, "--which")
     except OSError as error:
         said = str(error)
-    found = shutil.which("stmdesk")
+    found = executable("stmdesk")
     if found:
         return found
     raise FileNotFoundError(
         "no program to run. Give its path to Desk(..) or in the environment variable STMDESK. STMDESK isn't set; the package "
         f"brings none ({own}); {said}; no folder of the PATH has stmdesk ({os.environ.get('PATH', '')})."
     )
+
+
+def executable(name: str) -> str | None:
+    """The executable file of this name. Without a folder in it, it is the first on the PATH that isn't the command `stmdesk` of pip."""
+    if os.path.dirname(name):
+        return shutil.which(name)
+    path = os.environ.get("PATH", os.defpath)
+    for folder in path.split(os.pathsep) if path else ():
+        found = shutil.which(name, path=folder or os.curdir)
+        if found and not is_command(found):
+            return found
+    return None
+
+
+def is_command(path: str) -> bool:
+    """Whether the file is the command `stmdesk` that pip installs with this package. It asks `find_program`, so it is no answer to that."""
+    try:
+        with open(path, "rb") as file:
+            begin = file.read(8192)
+    except OSError:
+        return False
+    return begin.startswith(b"#!") and b"from stmdesk.__main__ import" in begin
 
 
 def is_repository(folder: Path) -> bool:

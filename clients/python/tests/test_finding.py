@@ -2,6 +2,7 @@
 
 import os
 import pathlib
+import re
 import shutil
 import subprocess
 import sys
@@ -184,6 +185,39 @@ class Finding(OnProgram):
         status, printed, said = run("serve", "--help")
         self.assertEqual((status, said), (0, ""))
         self.assertIn("stmdesk-serve [OPTIONS] SOCKET", printed)
+
+    def test_the_command_of_pip(self):
+        """It is the same as the module, and it is no program that `find_program` finds, or it would run itself without end."""
+        shutil.copytree(HERE / "stmdesk", self.folder / "stmdesk", ignore=shutil.ignore_patterns("__pycache__"))
+        folders = [self.folder / it for it in ("of pip", "with the program")]
+        command, stub = (it / "stmdesk" for it in folders)
+        for path, text in (
+            (command, f"#!{sys.executable}\nimport sys\nfrom stmdesk.__main__ import main\nif __name__ == '__main__':\n    sys.exit(main())\n"),
+            (stub, '#!/bin/sh\necho "$@"\n/bin/cat\nexit 3\n'),
+        ):
+            path.parent.mkdir()
+            path.write_text(text)
+            path.chmod(0o755)
+
+        def run(*words, path=folders[:1], **variables):
+            environment = {"PATH": ":".join(map(str, path)), "PYTHONPATH": str(self.folder), "PYTHONDONTWRITEBYTECODE": "1"} | variables
+            done = subprocess.run([command, *words], input="a line\n", capture_output=True, text=True, timeout=SECONDS, env=environment)
+            return done.returncode, done.stdout, done.stderr
+
+        for variables in ({"path": folders}, {"path": folders, "STMDESK": "stmdesk"}, {"STMDESK": str(stub)}):
+            self.assertEqual(run("check", "--why", **variables), (3, "check --why\na line\n", ""))
+        for variables, said in (
+            ({}, "no folder of the PATH has stmdesk"),
+            ({"path": []}, "no folder of the PATH has stmdesk"),
+            ({"STMDESK": "stmdesk"}, "STMDESK names 'stmdesk', which isn't an executable file"),
+            ({"STMDESK": str(command)}, f"STMDESK names '{command}', a command that pip made"),
+        ):
+            status, printed, found = run("run", **variables)
+            self.assertEqual((status, printed), (1, ""))
+            self.assertRegex(found, f"^stmdesk: no program to run.*{re.escape(said)}")
+        status, printed, found = run()
+        self.assertEqual((status, printed, found.partition(" ")[0]), (1, "", "stmdesk"))
+        self.assertIn("stmdesk-serve [OPTIONS] SOCKET", run("serve", "--help")[1])
 
     def test_aio_is_there_when_it_is_asked_for(self):
         code = "import stmdesk, sys\nprint('asyncio' in sys.modules, stmdesk.aio.Desk.__module__, hasattr(stmdesk, 'frob'))"

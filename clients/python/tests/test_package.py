@@ -200,6 +200,10 @@ class Package(OnProgram):
         command, environment = [sys.executable, "-B", "-c", code], {"PATH": "/usr/bin:/bin"}
         done = subprocess.run(command, cwd=folder, capture_output=True, text=True, env=environment, timeout=SECONDS)
         self.assertEqual((done.stdout, done.stderr), (f"5 {folder}/stmdesk/bin/stmdesk\n", ""))
+        command = [pathlib.Path(folder) / "bin" / "stmdesk", "run"]
+        environment = {"PATH": f"{folder}/bin:/usr/bin:/bin", "PYTHONPATH": folder, "PYTHONDONTWRITEBYTECODE": "1"}
+        done = subprocess.run(command, input="\n", capture_output=True, text=True, env=environment, timeout=SECONDS)
+        self.assertEqual((done.stdout, done.stderr), ("ticket 5\n", ""))
 
     def test_its_annotations(self):
         for name in stmdesk.__all__:
